@@ -1,0 +1,6 @@
+pub mod Lawful
+pub mod Shared
+pub mod Bits
+pub mod Rows
+pub mod Laws
+pub mod Examples

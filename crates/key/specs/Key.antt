@@ -1,0 +1,68 @@
+-- Keys: the key rule, their order, and the leading bytes that two keys share.
+use Prim.Native.Nat.{ℕ, suc}
+use mathlib.Core.Bool.{Bool, true, false, cond, _&&_, _||_}
+use mathlib.Core.List.{List, [], _∷_}
+use lib.ListN.{length}
+use lib.Dec.{eqb, ltb, leb}
+use Rattle.key.specs.declared.order.Order.{Order}
+use Rattle.key.specs.declared.order.Order.the-variants.{Less, Equal, Greater}
+
+-- The slash between the two parts of a key.
+abbrev pub slash : ℕ
+slash = 0x2F
+
+abbrev pub between : ℕ → ℕ → ℕ → Bool
+between low high b = leb low b && leb b high
+
+-- The other bytes of a key: letters, digits and . - _ : ~
+unfoldable pub ordinary : ℕ → Bool
+ordinary b =
+    between 0x61 0x7A b || between 0x41 0x5A b || between 0x30 0x39 b
+    || eqb b 0x2E || eqb b 0x2D || eqb b 0x5F || eqb b 0x3A || eqb b 0x7E
+
+-- The part before the first slash: all of the key where there is none.
+unfoldable pub collection : List ℕ → List ℕ
+collection [] = []
+collection (b ∷ k) =
+    let rest : List ℕ = b ∷ collection k in
+    cond (eqb b slash) [] rest
+
+-- The part after the first slash: nothing where there is none.
+unfoldable pub name : List ℕ → List ℕ
+name [] = []
+name (b ∷ k) =
+    let rest : List ℕ = name k in
+    cond (eqb b slash) k rest
+
+-- Ordinary bytes alone.
+unfoldable pub allOrdinary : List ℕ → Bool
+allOrdinary [] = true
+allOrdinary (b ∷ s) = ordinary b && allOrdinary s
+
+-- The key rule: 3 to 256 bytes, with just one slash and at least one byte on each side of it. The other bytes are ordinary.
+unfoldable pub lawful : List ℕ → Bool
+lawful k =
+    leb 3 (length k) && leb (length k) 256
+    && leb 1 (length (collection k)) && allOrdinary (collection k)
+    && leb 1 (length (name k)) && allOrdinary (name k)
+
+-- Keys are ordered byte by byte; a key stands before every longer key that begins with it.
+unfoldable pub less : List ℕ → List ℕ → Bool
+less [] [] = false
+less [] (b ∷ t) = true
+less (a ∷ s) [] = false
+less (a ∷ s) (b ∷ t) =
+    let rest : Bool = less s t in
+    cond (ltb a b) true (cond (eqb a b) rest false)
+
+-- The order as one of three cases.
+unfoldable pub order : List ℕ → List ℕ → Order
+order a b = cond (less a b) Less (cond (less b a) Greater Equal)
+
+-- The number of leading bytes that two keys share.
+unfoldable pub shared : List ℕ → List ℕ → ℕ
+shared [] t = 0
+shared (a ∷ s) [] = 0
+shared (a ∷ s) (b ∷ t) =
+    let rest : ℕ = suc (shared s t) in
+    cond (eqb a b) rest 0

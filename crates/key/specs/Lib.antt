@@ -1,0 +1,4 @@
+pub mod Key
+pub mod Layer
+pub mod Rows
+pub mod Inner

@@ -1,0 +1,25 @@
+-- What the digest call answers and writes.
+use Prim.Native.Nat.{ℕ}
+use mathlib.Core.Bool.{Bool, cond}
+use mathlib.Core.List.{List}
+use lib.ListN.{length}
+use lib.Dec.{leb}
+use Rattle.answer.specs.declared.Answer.{Answer}
+use Rattle.answer.specs.declared.Answer.the-variants.{Done, Refused}
+use Rattle.answer.specs.declared.Refusal.the-variants.{TooLong}
+use Rattle.fips180.specs.Hash.{sha256, zeros}
+
+-- The longest register and the longest input of digest and layer: 4,194,304 bytes.
+abbrev pub longest : ℕ
+longest = 4194304
+
+abbrev pub fitsCall : List ℕ → Bool
+fitsCall m = leb (length m) longest
+
+-- Number 1 where the input is too long.
+unfoldable pub digestAnswer : List ℕ → Answer
+digestAnswer m = cond (fitsCall m) (Done 0) (Refused TooLong)
+
+-- The digest, or 32 zeros where the input is too long.
+unfoldable pub digestOutput : List ℕ → List ℕ
+digestOutput m = cond (fitsCall m) (sha256 m) (zeros 32)

@@ -1,0 +1,141 @@
+// FIPS 180-4, sections 5.1.1 and 6.2: the blocks of a message and its padding.
+use crate::block::compress_of;
+use fips180::State;
+use fips180::low;
+ghost use mathlib.Core.Path.{_≡_};
+ghost use mathlib.Core.List.{_++_};
+ghost use Prim.Native.Nat.{_+_, _-_, _*_, _≤_};
+ghost use lib.ListN.{length};
+ghost use lib.Seq.{paste};
+ghost use Rattle.fips180.specs.Hash.{H0, run, bytes64, zeros, ending, words, bytesOf};
+ghost use Rattle.fips180.specs.Hash.{hash as hashed};
+
+// The hash value s after the first n blocks of m.
+fn absorb(s: State, m: &[u8], n: usize) -> State
+    requires { ⌜ 64 * n ≤ length (now m) ⌝ }
+    ensures { λ r. ⌜ r ≡ run n s (now (m .entry)) ⌝ }
+{
+    let mut x = s;
+    let mut k = 0;
+    while k < n {
+        let at = 64 * k;
+        let e = at + 64;
+        x = compress_of(x, &m[at..e]);
+        k += 1;
+    }
+    x
+}
+
+// The initial hash value.
+fn start() -> State
+    ensures { λ r. ⌜ r ≡ H0 ⌝ }
+{
+    State {
+        a: 0x6a09_e667,
+        b: 0xbb67_ae85,
+        c: 0x3c6e_f372,
+        d: 0xa54f_f53a,
+        e: 0x510e_527f,
+        f: 0x9b05_688c,
+        g: 0x1f83_d9ab,
+        h: 0x5be0_cd19,
+    }
+}
+
+// The length of n bytes in bits, as eight big-endian bytes. The shifts leave out what the product by 8 would carry past 64 bits.
+fn length_bytes(n: u64) -> [u8; 8]
+    ensures { λ r. ⌜ r ≡ bytes64 (8 * n) ⌝ }
+{
+    [
+        low(n >> 53),
+        low(n >> 45),
+        low(n >> 37),
+        low(n >> 29),
+        low(n >> 21),
+        low(n >> 13),
+        low(n >> 5),
+        low(n << 3),
+    ]
+}
+
+// The eight words as 32 bytes.
+pub fn digest_bytes(s: State) -> [u8; 32]
+    ensures { λ r. ⌜ r ≡ bytesOf (words s) ⌝ }
+{
+    [
+        ((s.a >> 24) % 256) as u8,
+        ((s.a >> 16) % 256) as u8,
+        ((s.a >> 8) % 256) as u8,
+        (s.a % 256) as u8,
+        ((s.b >> 24) % 256) as u8,
+        ((s.b >> 16) % 256) as u8,
+        ((s.b >> 8) % 256) as u8,
+        (s.b % 256) as u8,
+        ((s.c >> 24) % 256) as u8,
+        ((s.c >> 16) % 256) as u8,
+        ((s.c >> 8) % 256) as u8,
+        (s.c % 256) as u8,
+        ((s.d >> 24) % 256) as u8,
+        ((s.d >> 16) % 256) as u8,
+        ((s.d >> 8) % 256) as u8,
+        (s.d % 256) as u8,
+        ((s.e >> 24) % 256) as u8,
+        ((s.e >> 16) % 256) as u8,
+        ((s.e >> 8) % 256) as u8,
+        (s.e % 256) as u8,
+        ((s.f >> 24) % 256) as u8,
+        ((s.f >> 16) % 256) as u8,
+        ((s.f >> 8) % 256) as u8,
+        (s.f % 256) as u8,
+        ((s.g >> 24) % 256) as u8,
+        ((s.g >> 16) % 256) as u8,
+        ((s.g >> 8) % 256) as u8,
+        (s.g % 256) as u8,
+        ((s.h >> 24) % 256) as u8,
+        ((s.h >> 16) % 256) as u8,
+        ((s.h >> 8) % 256) as u8,
+        (s.h % 256) as u8,
+    ]
+}
+
+// src, written into t from at on.
+fn put(t: &mut [u8], at: usize, src: &[u8])
+    requires { ⌜ at + length (now src) ≤ length (now t) ⌝ }
+    ensures { λ _. ⌜ now (t .exit) ≡ paste (now (t .entry)) at (now (src .entry)) (length (now (src .entry))) ⌝ }
+{
+    let mut i = 0;
+    while i < src.len() {
+        t[at + i] = src[i];
+        i += 1;
+    }
+}
+
+// The last j blocks of a padded message of n bytes, whose last bytes are rest.
+fn last_blocks(rest: &[u8], n: u64, j: usize) -> [u8; 128]
+    requires { ⌜ (j ≤ 2) × (length (now rest) + 9 ≤ 64 * j) ⌝ }
+    ensures { λ r. ⌜ r ≡ ending (now (rest .entry)) (64 * j - 9 - length (now (rest .entry))) n ++ zeros (128 - 64 * j) ⌝ }
+{
+    let mut t = [0u8; 128];
+    put(&mut t, 0, rest);
+    let mark = [0x80u8; 1];
+    let r = rest.len();
+    put(&mut t, r, &mark);
+    let bits = length_bytes(n);
+    let e = 64 * j - 8;
+    put(&mut t, e, &bits);
+    t
+}
+
+// The eight words of a message's digest.
+pub fn hash(input: &[u8]) -> State
+    ensures { λ r. ⌜ r ≡ hashed (now (input .entry)) ⌝ }
+{
+    let n = input.len();
+    let q = n / 64;
+    let at = 64 * q;
+    let x = absorb(start(), input, q);
+    let rest = &input[at..];
+    let j = (rest.len() + 8) / 64 + 1;
+    let t = last_blocks(rest, n as u64, j);
+    absorb(x, &t, j)
+}

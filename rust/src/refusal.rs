@@ -1,0 +1,85 @@
+//! The reasons for which the library refuses an input.
+
+use core::fmt;
+
+/// Why the library refused a call. Each refusal has the number by which the C functions name it.
+#[derive(Clone, Copy, Debug, PartialEq, Eq, Hash)]
+#[repr(u8)]
+pub enum Refusal {
+    /// A lent register, or the input of `digest` or `layer`, is longer than 4,194,304 bytes.
+    TooLong = 1,
+    /// Each byte fits the page form, but the input ends while a byte or linked page is due.
+    EndsEarly = 2,
+    /// A byte departs from the page form.
+    Departs = 3,
+    /// Bytes follow the last linked page.
+    BytesFollow = 4,
+    /// There are more than 4,096 records, given or resulting.
+    TooManyRecords = 5,
+    /// A prefix length is not the shared count.
+    WrongPrefix = 6,
+    /// A key in a register or argument breaks the key rule.
+    UnlawfulKey = 7,
+    /// A key is not greater than the key before it in tree order.
+    KeysNotRising = 8,
+    /// The pages, their entries and their linked gaps are not those that the rules give for the
+    /// same keys.
+    WrongTree = 9,
+    /// A link's digest is not that of its page.
+    WrongDigest = 10,
+    /// A value argument is not 32 bytes.
+    ValueLength = 11,
+    /// The key is absent, for `lookup` and `remove`.
+    KeyAbsent = 12,
+    /// The result is longer than the output, or than 4,194,304 bytes.
+    NoRoom = 13,
+}
+
+impl Refusal {
+    /// Gives the number of the refusal, from 1 to 13.
+    pub const fn number(self) -> u8 {
+        self as u8
+    }
+
+    /// Gives the refusal with this number, or none where the number is not from 1 to 13.
+    pub const fn from_number(number: u8) -> Option<Refusal> {
+        Some(match number {
+            1 => Refusal::TooLong,
+            2 => Refusal::EndsEarly,
+            3 => Refusal::Departs,
+            4 => Refusal::BytesFollow,
+            5 => Refusal::TooManyRecords,
+            6 => Refusal::WrongPrefix,
+            7 => Refusal::UnlawfulKey,
+            8 => Refusal::KeysNotRising,
+            9 => Refusal::WrongTree,
+            10 => Refusal::WrongDigest,
+            11 => Refusal::ValueLength,
+            12 => Refusal::KeyAbsent,
+            13 => Refusal::NoRoom,
+            _ => return None,
+        })
+    }
+}
+
+impl fmt::Display for Refusal {
+    fn fmt(&self, formatter: &mut fmt::Formatter<'_>) -> fmt::Result {
+        formatter.write_str(match self {
+            Refusal::TooLong => "the input is longer than 4,194,304 bytes",
+            Refusal::EndsEarly => "the input ends while a byte or linked page is due",
+            Refusal::Departs => "a byte departs from the page form",
+            Refusal::BytesFollow => "bytes follow the last linked page",
+            Refusal::TooManyRecords => "there are more than 4,096 records",
+            Refusal::WrongPrefix => "a prefix length is not the shared count",
+            Refusal::UnlawfulKey => "a key breaks the key rule",
+            Refusal::KeysNotRising => "a key is not greater than the key before it",
+            Refusal::WrongTree => "the pages are not those that the rules give for the same keys",
+            Refusal::WrongDigest => "a link's digest is not that of its page",
+            Refusal::ValueLength => "a value is not 32 bytes",
+            Refusal::KeyAbsent => "the key is absent",
+            Refusal::NoRoom => "the result is longer than the output, or than 4,194,304 bytes",
+        })
+    }
+}
+
+impl core::error::Error for Refusal {}
