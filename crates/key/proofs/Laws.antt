@@ -1,19 +1,69 @@
--- What the crates above use of keys and layers: no layer is above 128, the laws of the order, and those of the shared bytes.
+-- What the crates above use of keys and layers: lawful keys are at most 256 bytes, no layer is above 128, the laws of the order, and those of
+-- the shared bytes.
 use Prim.Native.Nat.{ℕ, zero, suc, _*_, _≤_, _<_, zero-le, suc-le-suc}
 use mathlib.Core.Path.{_≡_, refl, sym, ap₂, _∙_}
-use mathlib.Core.Bool.{Bool, true, false, false≢true}
+use mathlib.Core.Bool.{Bool, true, false, and-false, false≢true}
 use mathlib.Core.List.{List, [], _∷_, _++_}
 use native.Mathlib.Omega.{arith}
-use lib.Dec.{eqb, ltb}
+use lib.Dec.{eqb, ltb, leb}
 use lib.ListN.{length, take, drop, length-append, take-append-drop}
-use borrow.Author.Tests.{eqb-true, eqb-false, eq-eqb, ltb-true, ltb-false, lt-ltb, le-ltb}
+use borrow.Author.Tests.{eqb-true, eqb-false, eq-eqb, ne-eqb, ltb-true, ltb-false, lt-ltb, le-ltb, leb-true, leb-false, lt-leb}
 use borrow.Table.Steps.{cases}
+use Rattle.fips180.specs.Bytes.{Bytes}
 use Rattle.fips180.specs.Hash.{sha256}
 use Rattle.fips180.proofs.Laws.{length-sha256}
 use Rattle.key.specs.declared.order.Order.the-variants.{Less, Equal, Greater}
-use Rattle.key.specs.Key.{less, order, shared}
+use Rattle.key.specs.Key.{slash, ordinary, collection, name, allOrdinary, lawful, less, order, shared}
 use Rattle.key.specs.Layer.{bits, bitsOf, leadingZeroBits, layerOfDigest, layerOf}
 use Rattle.key.proofs.Bits.{length-bits}
+use Rattle.key.proofs.Lawful.{too-long}
+
+-- ---- lawful keys
+pub lawful-length : (k : List ℕ) → lawful k ≡ true → length k ≤ 256
+lawful-length k h =
+    cases (leb (length k) 256) (leb-true (length k) 256) (λ e. absurd (false≢true (too-long k (leb-false (length k) 256 e) ∙ h)))
+
+-- every byte of a lawful key is the slash or ordinary, and these are below 256
+not-ordinary : (b : ℕ) → 256 ≤ b → ordinary b ≡ false
+unfolding ordinary
+not-ordinary b h =
+    let other : (n : ℕ) → n < b → eqb b n ≡ false = λ n l. ne-eqb b n (λ q. omega arith) in
+    simp (
+      lt-leb b 0x7A (omega arith),
+      lt-leb b 0x5A (omega arith),
+      lt-leb b 0x39 (omega arith),
+      other 0x2E (omega arith),
+      other 0x2D (omega arith),
+      other 0x5F (omega arith),
+      other 0x3A (omega arith),
+      other 0x7E (omega arith),
+      and-false,
+    )
+
+ordinary-small : (b : ℕ) → ordinary b ≡ true → b < 256
+ordinary-small b h =
+    cases (ltb b 256) (ltb-true b 256) (λ e. absurd (false≢true (sym (not-ordinary b (ltb-false b 256 e)) ∙ h)))
+
+ordinary-bytes : (s : List ℕ) → allOrdinary s ≡ true → Bytes s
+unfolding allOrdinary
+ordinary-bytes [] h = tt
+ordinary-bytes (b ∷ s) h =
+    cases (ordinary b) (λ e. (ordinary-small b e, ordinary-bytes s (rw e at h))) (λ e. absurd (false≢true (rw e at h)))
+
+parts-bytes : (k : List ℕ) → allOrdinary (collection k) ≡ true → allOrdinary (name k) ≡ true → Bytes k
+unfolding collection name allOrdinary
+parts-bytes [] h j = tt
+parts-bytes (b ∷ k) h j =
+    cases (eqb b slash)
+    (λ e. (omega (arith, eqb-true b slash e), ordinary-bytes k (rw e at j)))
+    (λ e. cases (ordinary b) (λ f. (ordinary-small b f, parts-bytes k (rw (e, f) at h) (rw e at j))) (λ f. absurd (false≢true (rw (e, f) at h))))
+
+pub lawful-bytes : (k : List ℕ) → lawful k ≡ true → Bytes k
+unfolding lawful
+lawful-bytes k h =
+    cases (allOrdinary (collection k))
+    (λ e. cases (allOrdinary (name k)) (parts-bytes k e) (λ f. absurd (false≢true (simp (f, and-false) at h))))
+    (λ e. absurd (false≢true (simp (e, and-false) at h)))
 
 -- ---- layers
 zeros-le : (s : List ℕ) → leadingZeroBits s ≤ length s
@@ -77,14 +127,14 @@ less-connected (x ∷ a) (y ∷ b) f g h =
     (λ k. less-connected a b (λ p. f (less-rest x y a b (eqb-true x y k) p)) (λ p. g (ap₂ (λ (z : ℕ) (l : List ℕ). z ∷ l) (eqb-true x y k) p)) (λ p. h (less-rest y x b a (sym (eqb-true x y k)) p)))
     (λ k. h (less-first y x b a (omega (arith, ltb-false x y e, eqb-false x y k)))))
 
-is-false : (t : Bool) → (t ≡ true → ⊥) → t ≡ false
+pub is-false : (t : Bool) → (t ≡ true → ⊥) → t ≡ false
 is-false true f = absurd (f refl)
 is-false false f = refl
 
 pub less-asymmetric : (a b : List ℕ) → less a b ≡ true → less b a ≡ false
 less-asymmetric a b h = is-false (less b a) (λ k. less-irreflexive a (less-transitive a b a h k))
 
-less-same : (a b : List ℕ) → a ≡ b → less a b ≡ false
+pub less-same : (a b : List ℕ) → a ≡ b → less a b ≡ false
 less-same a b e = rw e (is-false (less b b) (less-irreflexive b))
 
 -- ---- its three cases

@@ -1,0 +1,274 @@
+-- The walk over the entries of a page.
+use Prim.Native.Nat.{ℕ, zero, suc, _+_, _-_, _≤_, _<_}
+use mathlib.Core.Path.{_≡_, refl, sym, ap, subst, _∙_}
+use mathlib.Core.Bool.{true}
+use mathlib.Core.List.{List, [], _∷_, _++_}
+use native.Mathlib.Omega.{arith}
+use native.Mathlib.Numerals.{add-one}
+use native.Mathlib.Nat.{sub-zero}
+use lib.ListN.{length, take, drop, length-append, length-take}
+use Rattle.fips180.specs.Bytes.{Bytes}
+use Rattle.page.specs.Reading.{read, Reader, andThen, times}
+use Rattle.page.specs.Page.{RawEntry, entry as entryReader}
+use Rattle.page.specs.Place.{stopped, linkAt, entryAt, EntryHere, EntryIs, PageIs}
+use Rattle.page.specs.declared.reading.Stop.{Stop}
+use Rattle.page.specs.declared.reading.Stop.the-variants.{EndsEarly, Departs}
+use Rattle.page.specs.declared.reading.EntryAt.{EntryAt}
+use Rattle.page.specs.declared.reading.EntryRead.{EntryRead}
+use Rattle.page.specs.declared.reading.EntryRead.the-variants.{EntryStop}
+use Rattle.page.specs.declared.reading.PageRead.{PageRead}
+use Rattle.page.proofs.Readers.{endsEarly≢read, departs≢read, read-sub, andThen-inv}
+use Rattle.page.proofs.Places.{then-stops}
+use Rattle.tree.specs.Tree.{page, Gap, empty, under, Entries, end, entry}
+use Rattle.tree.specs.Record.{Spelt, recordOf}
+use Rattle.tree.specs.Table.{linkOf, tableUnder, readUnder, readFrom, readTree, deepest}
+use Rattle.tree.specs.Judge.{prefixesRight, prefixesRightUnder, digestsRight, digestsRightUnder, digestsRightFrom}
+use Rattle.tree.specs.Place.{lengthOfEntry}
+use Rattle.index.specs.Slot.{slots, slotsUnder, slotsFrom, filled, filledUnder, filledFrom}
+use Rattle.index.specs.Buffer.{HoldsKey, Extended}
+use Rattle.index.specs.Walk.{labelled, holding, Moved, Outcome, PageSays, prefixesUnderFrom, EntriesSay, Taken}
+use Rattle.index.specs.declared.walk.State.{State}
+use Rattle.index.specs.declared.walk.Walked.{Walked}
+use Rattle.index.specs.declared.walk.Walked.the-variants.{Whole, Stopped}
+use Rattle.index.proofs.Moves.{moved-none, moved-seq}
+use Rattle.index.proofs.Lengths.{under-link, under-ends, entry-ends}
+
+-- ---- what an answer says, at the answer that it is
+pub entry-is : (s : List ℕ) (at : ℕ) {r x : EntryRead} → EntryIs s at r → r ≡ x → EntryIs s at x
+entry-is s at w e = subst (EntryIs s at) e w
+
+pub page-is : (s : List ℕ) (at : ℕ) {r x : PageRead} → PageIs s at r → r ≡ x → PageIs s at x
+page-is s at w e = subst (PageIs s at) e w
+
+pub says-is : (s index last : List ℕ) (top level link : ℕ) (st : State) (index′ last′ : List ℕ) {r x : Walked}
+    → PageSays s index last top level link st r index′ last′ → r ≡ x → PageSays s index last top level link st x index′ last′
+says-is s index last top level link st index′ last′ w e = subst (λ (y : Walked). PageSays s index last top level link st y index′ last′) e w
+
+-- ---- gaps
+-- what is under the gap whose link stands at `link`, or nothing where `link` is 0
+abbrev pub GapSays : List ℕ → List ℕ → List ℕ → ℕ → ℕ → ℕ → State → Walked → List ℕ → List ℕ → Type 0
+GapSays s index last top level link st r index′ last′ =
+    Outcome s index last top 0 (readUnder (readTree (deepest - suc level)) (linkAt s link) (drop (st .next) s)) (slotsUnder (level + 1) (st .next))
+    prefixesRightUnder filledUnder digestsRightUnder st r index′ last′
+
+pub gap-none : (s index last : List ℕ) (top level link : ℕ) (st : State) → link ≡ 0 → st .next ≤ length s
+    → GapSays s index last top level link st (Whole st) index last
+unfolding readUnder linkAt slots prefixesRight filled digestsRight
+gap-none s index last top level link st e h = rw e (record { what = empty; reads = refl; few = omega arith; moved = moved-none h })
+
+gap-some : (s index last : List ℕ) (top level k : ℕ) (st : State) (r : Walked) (index′ last′ : List ℕ)
+    → PageSays s index last top (level + 1) (suc k) st r index′ last′ → GapSays s index last top level (suc k) st r index′ last′
+unfolding readUnder linkAt slots prefixesRight filled digestsRight labelled holding
+gap-some s index last top level k st (Whole st′) index′ last′ o = record {
+  what = under (take 32 (drop (suc k) s)) (o .what);
+  reads = rw (← add-one level, o .reads);
+  few = o .few;
+  moved = o .moved;
+}
+gap-some s index last top level k st (Stopped stop) index′ last′ o = rw (← add-one level) (then-stops _ stop o)
+
+pub gap-page : (s index last : List ℕ) (top level link : ℕ) (st : State) (r : Walked) (index′ last′ : List ℕ) → (link ≡ 0 → ⊥)
+    → PageSays s index last top (level + 1) link st r index′ last′ → GapSays s index last top level link st r index′ last′
+gap-page s index last top level zero st r index′ last′ f o = absurd (f refl)
+gap-page s index last top level (suc k) st r index′ last′ f o = gap-some s index last top level k st r index′ last′ o
+
+-- what was read under a gap
+pub gap-ends : (s index last : List ℕ) (top level link : ℕ) (st st′ : State) (index′ last′ : List ℕ) → Bytes s
+    → (gap : GapSays s index last top level link st (Whole st′) index′ last′)
+    → (linkOf (gap .what) ≡ linkAt s link) × (st′ .next ≡ st .next + length (tableUnder (gap .what)))
+gap-ends s index last top level link st st′ index′ last′ slice gap = (
+  under-link _ (linkAt s link) _ _ (gap .what) (gap .reads),
+  under-ends s _ (st .next) (st′ .next) _ (gap .what) slice (omega (arith, gap .moved .ahead, gap .moved .within)) (gap .moved .within) (gap .reads),
+)
+
+-- ---- rows of entries
+-- the walk over the n entries from `at` on, after the key `before`, and over all pages below them
+unfoldable pub RestSays : List ℕ → List ℕ → List ℕ → ℕ → ℕ → ℕ → ℕ → ℕ → List ℕ → State → Walked → List ℕ → List ℕ → Type 0
+RestSays s index last top level pg at n before st r index′ last′ =
+    (es : List RawEntry) (past : ℕ) → times n entryReader (drop at s) ≡ read es (drop past s)
+    → Outcome s index last top n (readFrom (readTree (deepest - suc level)) es (drop (st .next) s)) (slotsFrom level pg at (st .next) before)
+    prefixesUnderFrom filledFrom digestsRightFrom st r index′ last′
+
+times-none : {A : Type 0} (p : Reader A) (n : ℕ) (l rest : List ℕ) (xs : List A) → n ≡ 0 → times n p l ≡ read xs rest → xs ≡ []
+unfolding times
+times-none {A} p n l rest xs e h =
+    let h′ : read [] l ≡ read xs rest = rw e at h in
+    sym (read-sub (λ (x : List A) (r : List ℕ). [] ≡ x) h′ refl)
+
+times-more : {A C : Type 0} (p : Reader A) (n : ℕ) (l rest t : List ℕ) (xs : List A) (a : A) → p l ≡ read a t → times (suc n) p l ≡ read xs rest
+    → ((more : List A) → xs ≡ a ∷ more → times n p t ≡ read more rest → C) → C
+unfolding times
+times-more {A} p n l rest t xs a h q k =
+    let q′ : andThen (times n p t) (λ m u. read (a ∷ m) u) ≡ read xs rest = rw h at q in
+    andThen-inv (times n p t) (λ more u r z.
+    let e₁ : xs ≡ a ∷ more = cc in
+    let e₂ : u ≡ rest = cc in
+    k more e₁ (r ∙ ap (λ (y : List ℕ). read more y) e₂)) q′
+
+times-stops : {A : Type 0} (p : Reader A) (n : ℕ) (l rest : List ℕ) (xs : List A) (stop : Stop) → p l ≡ stopped stop → times (suc n) p l ≡ read xs rest → ⊥
+unfolding times
+times-stops p n l rest xs EndsEarly h q = endsEarly≢read (rw h at q)
+times-stops p n l rest xs Departs h q = departs≢read (rw h at q)
+
+-- the entry that was read, as it is spelt, and its key
+abbrev speltAt : List ℕ → EntryAt → Spelt
+speltAt s e = record { shares = e .shares; remainder = take (e .size) (drop (e .remainder) s); val = take 32 (drop (e .value) s) }
+
+abbrev keyAt : List ℕ → EntryAt → List ℕ → List ℕ
+keyAt s e before = take (e .shares) before ++ take (e .size) (drop (e .remainder) s)
+
+-- the slots of an entry, of what is under its gap, and of the entries after it, by the places where these were read
+entry-slots : (level pg at below : ℕ) (before : List ℕ) (f : Spelt) (g : Gap Spelt (List ℕ)) (es : Entries Spelt (List ℕ)) (to below₀ below₁ : ℕ)
+    → to ≡ at + lengthOfEntry f g → below₀ ≡ below → below₁ ≡ below₀ + length (tableUnder g)
+    → slotsFrom level pg at below before (entry f g es)
+    ≡ (record { depth = level; page = pg; entry = at; value = to - 32; item = recordOf before f } ∷ [])
+    ++ (slotsUnder (level + 1) below₀ g ++ slotsFrom level pg to below₁ (recordOf before f .key) es)
+unfolding slots
+entry-slots level pg at below before f g es to below₀ below₁ p q r = rw (p, r, q)
+
+-- ---- the loop over the entries of a page
+-- i entries are done and the next stands at `at`; what the walk over those left says tells what the walk over all says
+pub record Onward (s index₀ last₀ : List ℕ) (top level pg first n : ℕ) (st₀ : State) (index last buffer : List ℕ) (size : ℕ) (st : State) (at i : ℕ) : Type 0 where
+  pub turns : i ≤ n
+  pub ahead : st₀ .next ≤ st .next
+  pub within : st .next ≤ length s
+  pub few : st .count + (n - i) ≤ st .next
+  pub there : at ≤ length s
+  pub room : length buffer ≡ 256
+  pub before : List ℕ
+  pub holds : HoldsKey buffer size before
+  pub onward : (r : Walked) (index′ last′ : List ℕ) → RestSays s index last top level pg at (n - i) before st r index′ last′
+      → EntriesSay s index₀ last₀ top level pg first n st₀ r index′ last′
+
+take-none : (n : ℕ) → take {A = ℕ} n [] ≡ []
+take-none zero = refl
+take-none (suc n) = refl
+
+pub onward-start : (s index last : List ℕ) (top level pg first n : ℕ) (st : State) (buffer : List ℕ) → st .next ≤ length s → st .count + n ≤ st .next
+    → first ≤ length s → length buffer ≡ 256 → Onward s index last top level pg first n st index last buffer 0 st first 0
+unfolding RestSays EntriesSay
+onward-start s index last top level pg first n st buffer h k f b = record {
+  turns = omega arith;
+  ahead = omega arith;
+  within = h;
+  few = omega arith;
+  there = f;
+  room = b;
+  before = [];
+  holds = record { bytes = sym (take-none (length buffer)); size = refl };
+  onward = λ r index′ last′ w. simp sub-zero at w;
+}
+
+module _ {s index₀ last₀ : List ℕ} {top level pg first n : ℕ} {st₀ : State} {index last buffer : List ℕ} {size : ℕ} {st : State} {at i : ℕ}
+    (so-far : Onward s index₀ last₀ top level pg first n st₀ index last buffer size st at i) where
+  -- no entry is left
+  pub onward-end : n ≤ i → EntriesSay s index₀ last₀ top level pg first n st₀ (Whole st) index last
+  unfolding RestSays readFrom slots prefixesUnderFrom filled digestsRight
+  onward-end h =
+      so-far .onward (Whole st) index last (λ es past q.
+      rw (times-none entryReader (n - i) (drop at s) (drop past s) es (omega arith) q)
+      (record { what = end; reads = refl; few = omega arith; moved = moved-none (so-far .within) }))
+
+  module _ (more : i < n) where
+    one-more : n - i ≡ suc (n - (i + 1))
+    one-more = omega arith
+
+    -- the next entry was there when the page was read
+    pub onward-there : (got : EntryRead) (stop : Stop) → EntryIs s at got → got ≡ EntryStop stop
+        → EntriesSay s index₀ last₀ top level pg first n st₀ (Stopped stop) index last
+    unfolding RestSays
+    onward-there got stop w e =
+        so-far .onward (Stopped stop) index last (λ es past q.
+        absurd (times-stops entryReader (n - (i + 1)) (drop at s) (drop past s) es stop (entry-is s at w e) (rw one-more at q)))
+
+    -- it was read, its key is in the buffer, and its record was taken
+    module _ (slice : Bytes s) (e : EntryAt) (here : EntryHere s at e)
+        (buffer₁ : List ℕ) (size₁ : ℕ) (extended : Extended buffer size s (e .shares) (e .remainder) (e .size) buffer₁ size₁)
+        (index₁ last₁ : List ℕ) (st₁ : State) (taken : Taken index last top level pg at buffer₁ size₁ st st₁ index₁ last₁) where
+      key-held : HoldsKey buffer₁ size₁ (keyAt s e (so-far .before))
+      unfolding Extended
+      key-held = extended (so-far .before) (so-far .holds)
+
+      record-moved : (t : List ℕ) → st .next ≤ length t → (value : ℕ)
+          → Moved t index last top (record { depth = level; page = pg; entry = at; value = value; item = recordOf (so-far .before) (speltAt s e) } ∷ []) true true true st st₁ index₁ last₁
+      unfolding Taken
+      record-moved t h value = taken t h _ refl refl refl key-held
+
+      -- it takes no byte from what follows the page
+      pub onward-record : (st₁ .next ≡ st .next) × (st₁ .count ≡ st .count + 1)
+      onward-record =
+          let n = length-take (st .next) s in
+          let m = record-moved (take (st .next) s) (omega (arith, n, so-far .within)) 0 in
+          (omega (arith, m .ahead, m .within, n), m .count)
+
+      -- it, what is under its gap, and the entries after it
+      rest-join : (index₂ last₂ : List ℕ) (st₂ : State) (es : List RawEntry) (r : Walked) (index′ last′ : List ℕ)
+          → GapSays s index₁ last₁ top level (e .link) st₁ (Whole st₂) index₂ last₂
+          → Outcome s index₂ last₂ top (n - (i + 1)) (readFrom (readTree (deepest - suc level)) es (drop (st₂ .next) s))
+          (slotsFrom level pg (e .end) (st₂ .next) (keyAt s e (so-far .before))) prefixesUnderFrom filledFrom digestsRightFrom st₂ r index′ last′
+          → Outcome s index last top (n - i) (readFrom (readTree (deepest - suc level)) (entryAt s e ∷ es) (drop (st .next) s))
+          (slotsFrom level pg at (st .next) (so-far .before)) prefixesUnderFrom filledFrom digestsRightFrom st r index′ last′
+      unfolding readFrom prefixesUnderFrom filled digestsRight
+      rest-join index₂ last₂ st₂ es (Whole st′) index′ last′ gap rest =
+          let g : Gap Spelt (List ℕ) = gap .what in
+          let (link, below) = gap-ends s index₁ last₁ top level (e .link) st₁ st₂ index₂ last₂ slice gap in
+          let parts = entry-slots level pg at (st .next) (so-far .before) (speltAt s e) g (rest .what) (e .end) (st₁ .next) (st₂ .next)
+          (entry-ends s at e slice here g link) (onward-record .0) below in
+          let size = length-append (slotsUnder (level + 1) (st₁ .next) g) (slotsFrom level pg (e .end) (st₂ .next) (keyAt s e (so-far .before)) (rest .what)) in
+          record {
+            what = entry (speltAt s e) g (rest .what);
+            reads = rw (← onward-record .0, gap .reads, rest .reads);
+            few = rw parts (omega (arith, onward-record, gap .few, rest .few, size));
+            moved = rw parts (moved-seq (record-moved s (so-far .within) (e .end - 32)) (moved-seq (gap .moved) (rest .moved)));
+          }
+      rest-join index₂ last₂ st₂ es (Stopped stop) index′ last′ gap rest = rw (← onward-record .0, gap .reads) (then-stops _ stop rest)
+
+      -- the first of the entries left
+      first-left : {C : Type 0} (es : List RawEntry) (past : ℕ) → times (n - i) entryReader (drop at s) ≡ read es (drop past s)
+          → ((later : List RawEntry) → es ≡ entryAt s e ∷ later → times (n - (i + 1)) entryReader (drop (e .end) s) ≡ read later (drop past s) → C) → C
+      first-left es past q =
+          times-more entryReader (n - (i + 1)) (drop at s) (drop past s) (drop (e .end) s) es (entryAt s e) (here .whole .reads) (rw one-more at q)
+
+      onward-gap : length buffer₁ ≡ 256 → (index₂ last₂ : List ℕ) (st₂ : State)
+          → st₁ .next ≤ st₂ .next → st₂ .next ≤ length s → st₂ .count + st₁ .next ≤ st₁ .count + st₂ .next
+          → GapSays s index₁ last₁ top level (e .link) st₁ (Whole st₂) index₂ last₂
+          → Onward s index₀ last₀ top level pg first n st₀ index₂ last₂ buffer₁ size₁ st₂ (e .end) (i + 1)
+      unfolding RestSays
+      onward-gap room index₂ last₂ st₂ h k f gap = record {
+        turns = omega arith;
+        ahead = omega (arith, onward-record, so-far .ahead);
+        within = k;
+        few = omega (arith, onward-record, so-far .few);
+        there = here .whole .within;
+        room = room;
+        before = keyAt s e (so-far .before);
+        holds = key-held;
+        onward = λ r index′ last′ rest.
+            so-far .onward r index′ last′ (λ es past q. first-left es past q (λ later p z.
+            rw p (rest-join index₂ last₂ st₂ later r index′ last′ gap (rest later past z))));
+      }
+
+      -- nothing is in the gap after it
+      pub onward-none : length buffer₁ ≡ 256 → e .link ≡ 0 → Onward s index₀ last₀ top level pg first n st₀ index₁ last₁ buffer₁ size₁ st₁ (e .end) (i + 1)
+      onward-none room h =
+          onward-gap room index₁ last₁ st₁ (omega arith) (omega (arith, onward-record, so-far .within)) (omega arith)
+          (gap-none s index₁ last₁ top level (e .link) st₁ h (omega (arith, onward-record, so-far .within)))
+
+      -- a page is in the gap after it
+      pub onward-page : length buffer₁ ≡ 256 → (e .link ≡ 0 → ⊥) → (index₂ last₂ : List ℕ) (got : Walked) (st₂ : State)
+          → PageSays s index₁ last₁ top (level + 1) (e .link) st₁ got index₂ last₂ → got ≡ Whole st₂
+          → Onward s index₀ last₀ top level pg first n st₀ index₂ last₂ buffer₁ size₁ st₂ (e .end) (i + 1)
+      onward-page room h index₂ last₂ got st₂ w q =
+          let o = says-is s index₁ last₁ top (level + 1) (e .link) st₁ index₂ last₂ w q in
+          onward-gap room index₂ last₂ st₂ (o .moved .ahead) (o .moved .within) (omega (arith, o .moved .count, o .few))
+          (gap-page s index₁ last₁ top level (e .link) st₁ (Whole st₂) index₂ last₂ h o)
+
+      -- the walk over that page stopped
+      pub onward-stopped : (e .link ≡ 0 → ⊥) → (index₂ last₂ : List ℕ) (got : Walked) (stop : Stop)
+          → PageSays s index₁ last₁ top (level + 1) (e .link) st₁ got index₂ last₂ → got ≡ Stopped stop
+          → EntriesSay s index₀ last₀ top level pg first n st₀ (Stopped stop) index₂ last₂
+      unfolding RestSays readFrom
+      onward-stopped h index₂ last₂ got stop w q =
+          let o = says-is s index₁ last₁ top (level + 1) (e .link) st₁ index₂ last₂ w q in
+          so-far .onward (Stopped stop) index₂ last₂ (λ es past z. first-left es past z (λ later p _.
+          rw (p, ← onward-record .0) (then-stops _ stop (gap-page s index₁ last₁ top level (e .link) st₁ (Stopped stop) index₂ last₂ h o))))

@@ -1,0 +1,130 @@
+-- What was read ends where it would end if it were written: it takes as many bytes.
+use Prim.Native.Nat.{ℕ, zero, suc, _+_, _-_, _≤_, _<_}
+use mathlib.Core.Path.{_≡_, refl, sym, ap, _∙_}
+use mathlib.Core.Option.{Option, none, some}
+use mathlib.Core.List.{List, [], _∷_, _++_}
+use native.Mathlib.Omega.{arith}
+use lib.ListN.{length, take, drop, length-append, length-take, length-drop}
+use lib.Seq.{take-at}
+use Rattle.fips180.specs.Bytes.{Bytes}
+use Rattle.page.specs.Reading.{read, Reader, times}
+use Rattle.page.specs.Number.{numberBytes, array}
+use Rattle.page.specs.Page.{RawEntry, entry as entryReader}
+use Rattle.page.specs.Place.{pageStart, linkAt, entryAt, EntryHere, PageHere}
+use Rattle.page.specs.declared.reading.EntryAt.{EntryAt}
+use Rattle.page.specs.declared.reading.PageAt.{PageAt}
+use Rattle.page.proofs.Readers.{read-sub, andThen-inv, Spells, step, exactly-spells}
+use Rattle.page.proofs.Numbers.{number-spells}
+use Rattle.page.proofs.Pages.{GoodEntry, entry-spells, page-spells}
+use Rattle.tree.specs.Tree.{page, Gap, Entries}
+use Rattle.tree.specs.Record.{Spelt}
+use Rattle.tree.specs.Table.{SpeltTree, linkOf, rawEntries, rawPage, bytesOfPage, table, tableUnder, readUnder, readFrom, readTree}
+use Rattle.tree.specs.Place.{lengthOfEntry, firstEntry}
+use Rattle.tree.proofs.Tables.{tree-spells}
+
+bytes-drop : (n : ℕ) (s : List ℕ) → Bytes s → Bytes (drop n s)
+bytes-drop zero s b = b
+bytes-drop (suc n) [] b = b
+bytes-drop (suc n) (x ∷ s) b = bytes-drop n s (b .1)
+
+-- ---- between two places of a slice
+module _ {A : Type 0} {p : Reader A} {bytes : A → List ℕ} {Fine : A → Type 0} (spells : Spells p bytes Fine)
+    (s : List ℕ) (at to : ℕ) (a : A) (slice : Bytes s) (low : at ≤ length s) (high : to ≤ length s) (reads : p (drop at s) ≡ read a (drop to s)) where
+  whole : drop at s ≡ bytes a ++ drop to s
+  whole = spells .back (drop at s) (drop to s) a (bytes-drop at s slice) reads .0
+
+  pub read-fine : Fine a
+  read-fine = spells .back (drop at s) (drop to s) a (bytes-drop at s slice) reads .1
+
+  pub read-ends : to ≡ at + length (bytes a)
+  read-ends = omega (arith, length-append (bytes a) (drop to s), ap length whole, length-drop at s, length-drop to s)
+
+  pub read-part : bytes a ≡ take (to - at) (drop at s)
+  read-part =
+      let n : length (bytes a) ≡ to - at = omega (arith, read-ends) in
+      sym (ap (take (to - at)) whole ∙ take-at (bytes a) (drop to s) (to - at) n)
+
+-- ---- what the parts of a table are read from
+pub under-link : (tree : Reader SpeltTree) (o : Option (List ℕ)) (l rest : List ℕ) (g : Gap Spelt (List ℕ)) → readUnder tree o l ≡ read g rest → linkOf g ≡ o
+unfolding readUnder linkOf
+under-link tree none l rest g h = read-sub (λ j r. linkOf j ≡ none) h refl
+under-link tree (some d) l rest g h = andThen-inv (tree l) (λ t u e q. read-sub (λ j r. linkOf j ≡ some d) q refl) h
+
+pub from-entries : (tree : Reader SpeltTree) (rs : List RawEntry) (l rest : List ℕ) (es : Entries Spelt (List ℕ)) → readFrom tree rs l ≡ read es rest → rawEntries es ≡ rs
+unfolding readFrom rawEntries
+from-entries tree [] l rest es h = read-sub (λ j r. rawEntries j ≡ []) h refl
+from-entries tree (r ∷ rs) l rest es h =
+    andThen-inv (readUnder tree (r .after) l) (λ g u a q.
+    andThen-inv (readFrom tree rs u) (λ more v b z.
+    read-sub (λ j x. rawEntries j ≡ r ∷ rs) z (rw (under-link tree (r .after) l u g a, from-entries tree rs u v more b))) q) h
+
+pub times-length : {A : Type 0} (p : Reader A) (n : ℕ) (l rest : List ℕ) (xs : List A) → times n p l ≡ read xs rest → length xs ≡ n
+unfolding times
+times-length {A} p zero l rest xs h = read-sub (λ (x : List A) (r : List ℕ). length x ≡ 0) h refl
+times-length {A} p (suc n) l rest xs h =
+    andThen-inv (p l) (λ a u e q.
+    andThen-inv (times n p u) (λ more v b z. read-sub (λ (x : List A) (r : List ℕ). length x ≡ suc n) z (ap suc (times-length p n u v more b))) q) h
+
+-- ---- the table under a gap
+under-spells : (d : ℕ) (o : Option (List ℕ)) → Spells (readUnder (readTree d) o) tableUnder (λ g. Unit {0})
+unfolding readUnder table
+under-spells d none = record { back = λ s rest g b q. read-sub (λ j r. (s ≡ tableUnder j ++ r) × Unit {0}) q (refl, tt) }
+under-spells d (some digest) = record {
+  back = λ s rest g b. step (tree-spells d) s b (λ t u e _ _ q. read-sub (λ j r. (s ≡ tableUnder j ++ r) × Unit {0}) q (e, tt));
+}
+
+pub under-ends : (s : List ℕ) (d at to : ℕ) (o : Option (List ℕ)) (g : Gap Spelt (List ℕ)) → Bytes s → at ≤ length s → to ≤ length s
+    → readUnder (readTree d) o (drop at s) ≡ read g (drop to s) → to ≡ at + length (tableUnder g)
+under-ends s d at to o g b l h q = read-ends (under-spells d o) s at to g b l h q
+
+-- ---- an entry
+module _ (s : List ℕ) (at : ℕ) (e : EntryAt) (slice : Bytes s) (here : EntryHere s at e) where
+  entry-fine : GoodEntry (entryAt s e)
+  entry-fine = read-fine entry-spells s at (e .end) (entryAt s e) slice (omega (arith, here .whole .ahead, here .whole .within)) (here .whole .within) (here .whole .reads)
+
+  pub entry-small : (e .remainder + e .size ≤ length s) × (e .shares < 65536) × (e .size < 65536)
+  entry-small =
+      let n = length-take (e .size) (drop (e .remainder) s) in (
+        omega (arith, here .inside, here .whole .within),
+        entry-fine .shares,
+        omega (arith, entry-fine .remainder, n, length-drop (e .remainder) s, here .inside, here .whole .within),
+      )
+
+  pub entry-ends : (g : Gap Spelt (List ℕ)) → linkOf g ≡ linkAt s (e .link)
+      → e .end ≡ at + lengthOfEntry (record { shares = e .shares; remainder = take (e .size) (drop (e .remainder) s); val = take 32 (drop (e .value) s) }) g
+  entry-ends g q =
+      rw q (read-ends entry-spells s at (e .end) (entryAt s e) slice (omega (arith, here .whole .ahead, here .whole .within)) (here .whole .within) (here .whole .reads))
+
+-- ---- a page
+start-spells : Spells pageStart (λ n. (0xA2 ∷ 0x61 ∷ 0x65 ∷ []) ++ numberBytes array n) (λ _. Unit {0})
+start-spells = record {
+  back = λ s rest n b.
+      step (exactly-spells (0xA2 ∷ 0x61 ∷ 0x65 ∷ [])) s b (λ _ t e _ bt q.
+      let r = number-spells array .back t rest n bt q in
+      (rw (e, r .0), tt));
+}
+
+module _ (s : List ℕ) (at : ℕ) (p : PageAt) (slice : Bytes s) (here : PageHere s at p)
+    (g : Gap Spelt (List ℕ)) (es : Entries Spelt (List ℕ)) (left : linkOf g ≡ linkAt s (p .left)) (row : rawEntries es ≡ here .row .entries) where
+  pub page-ends : p .end ≡ at + length (bytesOfPage (page g es))
+  unfolding bytesOfPage rawPage
+  page-ends =
+      rw (left, row) (read-ends page-spells s at (p .end) (record { entries = here .row .entries; left = linkAt s (p .left) }) slice
+      (omega (arith, here .whole .ahead, here .whole .within)) (here .whole .within) (here .whole .reads))
+
+  pub page-part : bytesOfPage (page g es) ≡ take (p .end - at) (drop at s)
+  unfolding bytesOfPage rawPage
+  page-part =
+      rw (left, row) (read-part page-spells s at (p .end) (record { entries = here .row .entries; left = linkAt s (p .left) }) slice
+      (omega (arith, here .whole .ahead, here .whole .within)) (here .whole .within) (here .whole .reads))
+
+  pub page-count : length (rawEntries es) ≡ p .count
+  page-count = ap length row ∙ times-length entryReader (p .count) (drop (p .first) s) (drop (p .past) s) (here .row .entries) (here .row .reads)
+
+  pub page-first : p .first ≡ at + firstEntry es
+  page-first =
+      rw page-count (omega (
+        arith,
+        read-ends start-spells s at (p .first) (p .count) slice
+            (omega (arith, here .start .ahead, here .start .within)) (here .start .within) (here .start .reads),
+      ))

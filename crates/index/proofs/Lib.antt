@@ -1,0 +1,15 @@
+pub mod Buffers
+pub mod Entries
+pub mod Prefixes
+pub mod Pages
+pub mod Records
+pub mod Settling
+pub mod SlotLaws
+pub mod RightTree
+pub mod Verdicts
+pub mod Standing
+pub mod Moves
+pub mod Lengths
+pub mod PageTests
+pub mod EntrySteps
+pub mod PageSteps

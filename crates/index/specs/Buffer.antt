@@ -1,0 +1,30 @@
+-- Keys in buffers: a buffer holds a key's first bytes, as many as it has room for, beside the key's length.
+use Prim.Native.Nat.{ℕ, _<_, _≤_}
+use mathlib.Core.Path.{_≡_}
+use mathlib.Core.Bool.{Bool, true, _&&_}
+use mathlib.Core.List.{List, [], _∷_, _++_}
+use lib.ListN.{length, take, drop}
+use lib.Dec.{eqb}
+use Rattle.key.specs.Key.{shared}
+use Rattle.page.specs.Page.{RawEntry}
+
+pub record HoldsKey (buffer : List ℕ) (n : ℕ) (k : List ℕ) : Type 0 where
+  pub bytes : take n buffer ≡ take (length buffer) k
+  pub size : n ≡ length k
+
+-- The key that takes its prefix from the key held, and goes on with the bytes of s from `at` on.
+unfoldable pub Extended : List ℕ → ℕ → List ℕ → ℕ → ℕ → ℕ → List ℕ → ℕ → Type 0
+Extended buffer size s shares at n buffer′ size′ =
+    (k : List ℕ) → HoldsKey buffer size k → HoldsKey buffer′ size′ (take shares k ++ take n (drop at s))
+
+-- Whether a prefix length is the count of bytes shared with the key held.
+unfoldable pub PrefixIs : List ℕ → ℕ → List ℕ → ℕ → ℕ → ℕ → Bool → Type 0
+PrefixIs buffer size s shares at n r =
+    (k : List ℕ) → HoldsKey buffer size k → shares < length buffer → r ≡ eqb shares (shared k (take shares k ++ take n (drop at s)))
+
+-- Whether the prefix lengths of a row of entries are right, after the key `before`.
+unfoldable pub prefixesOf : List ℕ → List RawEntry → Bool
+prefixesOf before [] = true
+prefixesOf before (e ∷ es) =
+    eqb (e .shares) (shared before (take (e .shares) before ++ e .remainder))
+    && prefixesOf (take (e .shares) before ++ e .remainder) es

@@ -1,0 +1,12 @@
+pub mod Tools
+pub mod Readers
+pub mod Numbers
+pub mod Pages
+pub mod AllBytes
+pub mod Places
+pub mod PagePlaces
+pub mod Determined
+pub mod Lending
+pub mod Sizes
+pub mod Writers
+pub mod Examples

@@ -1,0 +1,5 @@
+pub mod Reading
+pub mod Number
+pub mod Page
+pub mod Place
+pub mod Front

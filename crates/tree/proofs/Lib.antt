@@ -1,0 +1,14 @@
+pub mod Lists
+pub mod Tests
+pub mod Maps
+pub mod BuildLaws
+pub mod Depths
+pub mod Spelling
+pub mod Shape
+pub mod Tables
+pub mod Accept
+pub mod TableBytes
+pub mod PlaceLaws
+pub mod Laws
+pub mod Rows
+pub mod Examples
