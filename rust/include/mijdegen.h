@@ -5,8 +5,9 @@
  * that the call was done. Any other number says why it was refused; the value is then 0, so that
  * the answer equals the number. Take an answer apart with mijdegen_number and mijdegen_value.
  *
- * An input is a pointer and a length in bytes. It is read and never changed. Where the length
- * is 0, the pointer is not read. An output must share no byte with an input.
+ * An input is a pointer and a length in bytes. It is read and never changed. An output is a
+ * pointer and a length too, or a pointer to 32 bytes. Where a length is 0, the pointer is neither
+ * read nor written. An output must share no byte with an input or with another output.
  */
 
 #ifndef MIJDEGEN_H
@@ -19,8 +20,11 @@
 extern "C" {
 #endif
 
-/* The length in bytes of the longest input that is taken. */
+/* The length in bytes of the longest register, and of the longest input of digest and layer. */
 #define MIJDEGEN_LONGEST 4194304
+
+/* The length in bytes of the longest key. */
+#define MIJDEGEN_LONGEST_KEY 256
 
 /* The length in bytes of a digest. */
 #define MIJDEGEN_DIGEST_LENGTH 32
@@ -85,6 +89,38 @@ uint64_t mijdegen_digest(const uint8_t *input, size_t input_len,
  * MIJDEGEN_TOO_LONG where the input is longer than MIJDEGEN_LONGEST bytes.
  */
 uint64_t mijdegen_layer(const uint8_t *input, size_t input_len);
+
+/*
+ * Checks the register.
+ *
+ * The number of the answer is 0 and its value is the count of the records, from 0 to 4,096. The
+ * answer of a refused register is one of 1 to 10, from MIJDEGEN_TOO_LONG to
+ * MIJDEGEN_WRONG_DIGEST: the first that holds for the whole register, in this order.
+ */
+uint64_t mijdegen_check(const uint8_t *reg, size_t reg_len);
+
+/*
+ * Looks for the record with the key.
+ *
+ * The number of the answer is 0 and its value is the place in the register, counted from 0, where
+ * the 32 bytes of the record's value begin. Otherwise the answer is the number of
+ * mijdegen_check for a refused register; then MIJDEGEN_UNLAWFUL_KEY where the key breaks the key
+ * rule; then MIJDEGEN_KEY_ABSENT where no record has the key.
+ */
+uint64_t mijdegen_lookup(const uint8_t *reg, size_t reg_len, const uint8_t *key, size_t key_len);
+
+/*
+ * Gives the n-th record in key order, n from 0. The key is written to out, with zeros after it up
+ * to out_len bytes, and the value to the 32 bytes at value.
+ *
+ * The number of the answer is 0 and its value is the length of the key, from 3 to
+ * MIJDEGEN_LONGEST_KEY. From the count of the records on the value of the answer is 0: n is past
+ * the end, whatever out_len is, and out and value are zeros. Otherwise the answer is the number
+ * of mijdegen_check for a refused register; then MIJDEGEN_NO_ROOM where the key is longer than
+ * out_len. On refusal out and value are zeros too.
+ */
+uint64_t mijdegen_list(const uint8_t *reg, size_t reg_len, uint64_t n, uint8_t *out,
+                       size_t out_len, uint8_t value[MIJDEGEN_DIGEST_LENGTH]);
 
 #ifdef __cplusplus
 }

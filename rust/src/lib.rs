@@ -15,8 +15,12 @@ mod sys;
 
 pub use refusal::Refusal;
 
-/// The length in bytes of the longest input that [`digest`] and [`layer`] take.
+/// The length in bytes of the longest register, and of the longest input that [`digest`] and
+/// [`layer`] take.
 pub const LONGEST: usize = 4_194_304;
+
+/// The length in bytes of the longest key. An output so long has room for each key of [`list`].
+pub const LONGEST_KEY: usize = 256;
 
 /// A SHA-256 digest.
 pub type Digest = [u8; 32];
@@ -67,6 +71,140 @@ pub fn digest(input: &[u8]) -> Result<Digest, Refusal> {
 pub fn layer(input: &[u8]) -> Result<u8, Refusal> {
     let value = outcome(sys::layer(input))?;
     Ok(u8::try_from(value).expect("the library gives layers from 0 to 128"))
+}
+
+/// Checks the register and gives the count of its records.
+///
+/// A register is the page table of a set of records: each set has just one, and no other bytes
+/// are accepted.
+///
+/// # Errors
+///
+/// One of the refusals 1 to 10, from [`Refusal::TooLong`] to [`Refusal::WrongDigest`]: the first
+/// that holds for the whole register, in the order of their numbers.
+///
+/// # Examples
+///
+/// ```
+/// use mijdegen::{check, Refusal};
+///
+/// // The empty register is one page without entries and without a link.
+/// let mut register = b"\xa2\x61e\x80\x61l\xf6".to_vec();
+/// assert_eq!(check(&register), Ok(0));
+///
+/// register.push(0xf6);
+/// assert_eq!(check(&register), Err(Refusal::BytesFollow));
+/// ```
+pub fn check(register: &[u8]) -> Result<usize, Refusal> {
+    Ok(count(outcome(sys::check(register))?))
+}
+
+/// Gives the value of the key, as a part of the lent register.
+///
+/// # Errors
+///
+/// One of the refusals 1 to 10 where [`check`] refuses the register; then
+/// [`Refusal::UnlawfulKey`] where the key breaks the key rule, and [`Refusal::KeyAbsent`] where
+/// the register has no record with the key.
+///
+/// # Examples
+///
+/// ```
+/// use mijdegen::{lookup, Refusal};
+///
+/// // One page with one entry: key `a/b1`, prefix 0, no link, and the value as a link.
+/// let mut register = b"\xa2\x61e\x81\xa4\x61k\x44a/b1\x61p\x00\x61t\xf6\x61v".to_vec();
+/// register.extend(b"\xd8\x2a\x58\x25\x00\x01\x71\x12\x20");
+/// register.extend([0x11; 32]);
+/// register.extend(b"\x61l\xf6");
+///
+/// assert_eq!(lookup(&register, b"a/b1"), Ok(&[0x11; 32]));
+/// assert_eq!(lookup(&register, b"a/b2"), Err(Refusal::KeyAbsent));
+/// assert_eq!(lookup(&register, b"a/"), Err(Refusal::UnlawfulKey));
+/// ```
+pub fn lookup<'a>(register: &'a [u8], key: &[u8]) -> Result<&'a Digest, Refusal> {
+    let place = lookup_place(register, key)?;
+    let value = register.get(place..).and_then(|rest| rest.first_chunk());
+    Ok(value.expect("the library gives a place with 32 bytes of the register"))
+}
+
+/// Gives the place in the register, counted from 0, where the 32 bytes of the key's value begin.
+///
+/// # Errors
+///
+/// Those of [`lookup`].
+///
+/// # Examples
+///
+/// ```
+/// // One page with one entry: key `a/b1`, prefix 0, no link, and the value as a link.
+/// let mut register = b"\xa2\x61e\x81\xa4\x61k\x44a/b1\x61p\x00\x61t\xf6\x61v".to_vec();
+/// register.extend(b"\xd8\x2a\x58\x25\x00\x01\x71\x12\x20");
+/// register.extend([0x11; 32]);
+/// register.extend(b"\x61l\xf6");
+///
+/// let place = mijdegen::lookup_place(&register, b"a/b1")?;
+/// assert_eq!(place, 29);
+/// assert_eq!(register[place..place + 32], [0x11; 32]);
+/// # Ok::<(), mijdegen::Refusal>(())
+/// ```
+pub fn lookup_place(register: &[u8], key: &[u8]) -> Result<usize, Refusal> {
+    Ok(count(outcome(sys::lookup(register, key))?))
+}
+
+/// A record that [`list`] gives. Its key stands at the start of the output.
+#[derive(Clone, Copy, Debug, PartialEq, Eq)]
+pub struct Listed {
+    /// The length of the key, from 3 to [`LONGEST_KEY`].
+    pub key_length: usize,
+    /// The value of the record.
+    pub value: Digest,
+}
+
+/// Gives the n-th record in key order, counted from 0. Past the end there is none.
+///
+/// The key is written to the output, with zeros after it. Past the end and on refusal the output
+/// is zero.
+///
+/// # Errors
+///
+/// One of the refusals 1 to 10 where [`check`] refuses the register; then [`Refusal::NoRoom`]
+/// where the key is longer than the output.
+///
+/// # Examples
+///
+/// ```
+/// use mijdegen::{list, Refusal, LONGEST_KEY};
+///
+/// // One page with one entry: key `a/b1`, prefix 0, no link, and the value as a link.
+/// let mut register = b"\xa2\x61e\x81\xa4\x61k\x44a/b1\x61p\x00\x61t\xf6\x61v".to_vec();
+/// register.extend(b"\xd8\x2a\x58\x25\x00\x01\x71\x12\x20");
+/// register.extend([0x11; 32]);
+/// register.extend(b"\x61l\xf6");
+///
+/// let mut out = [0; LONGEST_KEY];
+/// let listed = list(&register, 0, &mut out)?.expect("there is one record");
+/// assert_eq!(out[..listed.key_length], *b"a/b1");
+/// assert_eq!(listed.value, [0x11; 32]);
+///
+/// assert_eq!(list(&register, 1, &mut out), Ok(None));
+/// assert_eq!(out, [0; LONGEST_KEY]);
+///
+/// assert_eq!(list(&register, 0, &mut out[..3]), Err(Refusal::NoRoom));
+/// # Ok::<(), Refusal>(())
+/// ```
+pub fn list(register: &[u8], n: usize, out: &mut [u8]) -> Result<Option<Listed>, Refusal> {
+    let mut value = [0; 32];
+    let key_length = count(outcome(sys::list(register, n as u64, out, &mut value))?);
+    if key_length == 0 {
+        return Ok(None);
+    }
+    Ok(Some(Listed { key_length, value }))
+}
+
+/// Gives a value of the library that counts bytes or records of a slice.
+fn count(value: u64) -> usize {
+    usize::try_from(value).expect("the library counts no more than a slice holds")
 }
 
 /// Takes an answer of the library apart. An answer is a number plus 256 times a value: number 0

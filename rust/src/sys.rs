@@ -1,13 +1,23 @@
 //! The C functions of the library, each behind a safe function. All unsafe code of the crate is
 //! in this module.
 //!
-//! What every call relies on: the library reads the `input_len` bytes at `input` and no others,
-//! writes the output it is lent and nothing else, keeps no pointer and no state from one call to
-//! the next, and returns from every call.
+//! What every call relies on: the library reads the bytes of its inputs, as many as their lengths
+//! say, and no others, writes the outputs it is lent and nothing else, keeps no pointer and no
+//! state from one call to the next, and returns from every call.
 
 extern "C" {
     fn mijdegen_digest(input: *const u8, input_len: usize, out: *mut [u8; 32]) -> u64;
     fn mijdegen_layer(input: *const u8, input_len: usize) -> u64;
+    fn mijdegen_check(reg: *const u8, reg_len: usize) -> u64;
+    fn mijdegen_lookup(reg: *const u8, reg_len: usize, key: *const u8, key_len: usize) -> u64;
+    fn mijdegen_list(
+        reg: *const u8,
+        reg_len: usize,
+        n: u64,
+        out: *mut u8,
+        out_len: usize,
+        value: *mut [u8; 32],
+    ) -> u64;
 }
 
 /// Writes the digest of the input, or zeros on refusal, and gives the answer.
@@ -25,4 +35,35 @@ pub(crate) fn layer(input: &[u8]) -> u64 {
     // the whole call. The pointer of an empty slice may lead nowhere, but at length 0 it is not
     // read. Nothing is written.
     unsafe { mijdegen_layer(input.as_ptr(), input.len()) }
+}
+
+/// Gives the answer that holds the count of the register's records.
+pub(crate) fn check(register: &[u8]) -> u64 {
+    // SAFETY: As for `layer`.
+    unsafe { mijdegen_check(register.as_ptr(), register.len()) }
+}
+
+/// Gives the answer that holds the place of the key's value in the register.
+pub(crate) fn lookup(register: &[u8], key: &[u8]) -> u64 {
+    // SAFETY: As for `layer`, with two slices. Both are only read, so they may share bytes.
+    unsafe { mijdegen_lookup(register.as_ptr(), register.len(), key.as_ptr(), key.len()) }
+}
+
+/// Writes the key and the value of the n-th record, or zeros on refusal and past the end, and
+/// gives the answer that holds the key's length.
+pub(crate) fn list(register: &[u8], n: u64, out: &mut [u8], value: &mut [u8; 32]) -> u64 {
+    // SAFETY: Each pointer and its length are of one slice, so that many bytes can be read, or
+    // written, for the whole call. The pointer of an empty slice may lead nowhere, but at length
+    // 0 it is neither read nor written. The value is one pointer to 32 bytes that can be
+    // written. Being mutable, the two outputs share no byte with each other or the register.
+    unsafe {
+        mijdegen_list(
+            register.as_ptr(),
+            register.len(),
+            n,
+            out.as_mut_ptr(),
+            out.len(),
+            value,
+        )
+    }
 }

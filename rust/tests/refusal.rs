@@ -1,6 +1,6 @@
 //! The names and numbers of the refusals.
 
-use mijdegen::{Refusal, LONGEST};
+use mijdegen::{Refusal, LONGEST, LONGEST_KEY};
 use std::collections::HashSet;
 use std::error::Error;
 
@@ -69,9 +69,12 @@ fn the_header_has_the_same_numbers() {
 
     let longest = format!("#define MIJDEGEN_LONGEST {LONGEST}");
     assert!(header.lines().any(|line| line == longest));
+    let longest_key = format!("#define MIJDEGEN_LONGEST_KEY {LONGEST_KEY}");
+    assert!(header.lines().any(|line| line == longest_key));
 }
 
 #[test]
-fn the_longest_length() {
+fn the_longest_lengths() {
     assert_eq!(LONGEST, 4_194_304);
+    assert_eq!(LONGEST_KEY, 256);
 }

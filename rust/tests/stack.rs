@@ -2,8 +2,11 @@
 
 mod common;
 
+use common::forge::{left_chain, link_to, longest_page, right_chain, Entry, Page};
+use common::sets::{set, KINDS};
 use common::Random;
-use mijdegen::{digest, layer, Refusal, LONGEST};
+use independent::table;
+use mijdegen::{check, digest, layer, list, lookup, Refusal, LONGEST};
 use std::thread;
 
 const STACK: usize = 512 * 1024;
@@ -34,4 +37,116 @@ fn digest_and_layer() {
 
     let found = with_small_stack(move || (digest(&bytes), layer(&bytes)));
     assert_eq!(found, (Err(Refusal::TooLong), Err(Refusal::TooLong)));
+}
+
+/// Checks the register and looks for the key in it and for its record, on a small stack. Gives
+/// the number that is due, or 0.
+fn read_with_small_stack(register: Vec<u8>, key: &[u8], n: usize) -> u8 {
+    // The expected results are made outside the small stack.
+    let count = independent::check(&register);
+    let place = independent::lookup(&register, key);
+    let (mut key_out, mut value) = ([0; 256], [0; 32]);
+    let length = independent::list(&register, n as u64, &mut key_out, &mut value);
+
+    let key = key.to_vec();
+    let found = with_small_stack(move || {
+        let mut out = [0xaa; 256];
+        let count = check(&register).map_err(Refusal::number);
+        let found = lookup(&register, &key).map_err(Refusal::number).copied();
+        let listed = list(&register, n, &mut out).map_err(Refusal::number);
+        let listed = listed.map(|listed| listed.map(|listed| (listed.key_length, listed.value)));
+        (count, found, listed, out, register)
+    });
+    let (found_count, found, listed, out, register) = found;
+    assert_eq!(found_count, count);
+    let expected = place.map(|place| register[place..place + 32].to_vec());
+    assert_eq!(found.map(Vec::from), expected);
+    let expected = length.map(|length| Some((length, value)).filter(|_| length > 0));
+    assert_eq!(listed, expected);
+    assert_eq!(out, key_out);
+    count.err().unwrap_or(0)
+}
+
+/// Registers of 4,096 records. Chains of layers are the deepest that are accepted.
+#[test]
+fn the_largest_registers() {
+    for kind in KINDS {
+        for count in [2, 4_096] {
+            let set = set(kind, count);
+            let last = set.keys().next_back().expect("there are records");
+            let number = read_with_small_stack(table(&set), last, count - 1);
+            assert_eq!(number, 0, "{kind:?}");
+        }
+    }
+}
+
+/// Pages that follow one another as far as the form allows, and further.
+#[test]
+fn the_deepest_inputs() {
+    let mut cases = 0;
+    for (depth, expected) in [(129, 9), (130, 3), (200, 3)] {
+        for chain in [
+            left_chain(depth),
+            right_chain(depth, 1),
+            right_chain(depth, 31),
+        ] {
+            let register = chain.table();
+            // 129 pages of 31 entries are 3,999 records; more do not matter, since 3 goes first.
+            assert_eq!(read_with_small_stack(register, b"a/b1", 0), expected);
+            cases += 1;
+        }
+    }
+    assert_eq!(cases, 3 * 3);
+
+    // Two deep chains side by side.
+    let mut root = Page::of_keys(&[b"b/b1"]);
+    root.left = link_to(left_chain(128));
+    root.entries[0].after = link_to(right_chain(128, 31));
+    assert_eq!(read_with_small_stack(root.table(), b"b/b1", 1), 9);
+
+    // A chain whose keys are as long as lawful keys can be.
+    let mut long = right_chain(129, 31);
+    for n in 0..129 {
+        let page = long.page_mut(n);
+        let mut keys = page.keys();
+        for key in &mut keys {
+            key.resize(256, b'k');
+        }
+        page.spell(&keys);
+    }
+    assert_eq!(read_with_small_stack(long.table(), b"b/b1", 1), 9);
+    // A page linked as deep as can be, with a digest that is wrong.
+    let mut wrong = left_chain(129);
+    wrong.left.as_mut().expect("a link").flip[0] = 1;
+    assert_eq!(read_with_small_stack(wrong.table(), b"b/b1", 1), 9);
+}
+
+/// Inputs of the greatest length.
+#[test]
+fn the_longest_inputs() {
+    assert_eq!(read_with_small_stack(vec![0; LONGEST], b"a/b1", 0), 3);
+    assert_eq!(read_with_small_stack(vec![0; LONGEST + 1], b"a/b1", 0), 1);
+    for (entries, expected) in [(65, 6), (4_096, 6), (4_097, 5)] {
+        let register = longest_page(entries).table();
+        assert_eq!(register.len(), LONGEST);
+        assert_eq!(read_with_small_stack(register, b"a/b1", 0), expected);
+    }
+    // Right prefixes of keys that are too long.
+    let mut page = longest_page(4_096);
+    page.spell(&page.keys());
+    assert_eq!(read_with_small_stack(page.table(), b"a/b1", 0), 7);
+    // As many entries as a page can have, and many pages side by side.
+    let mut page = Page {
+        left: None,
+        entries: vec![Entry::new(b"a/b1"); 65_535],
+    };
+    assert_eq!(read_with_small_stack(page.table(), b"a/b1", 0), 5);
+    page.entries.truncate(40_000);
+    for entry in &mut page.entries {
+        entry.after = link_to(Page::default());
+    }
+    assert_eq!(read_with_small_stack(page.table(), b"a/b1", 0), 5);
+    // The key argument is long.
+    let register = table(&set(KINDS[0], 10));
+    assert_eq!(read_with_small_stack(register, &vec![b'a'; LONGEST], 0), 0);
 }

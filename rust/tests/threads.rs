@@ -2,8 +2,10 @@
 
 mod common;
 
+use common::sets::value;
 use common::Random;
-use mijdegen::{digest, layer};
+use independent::{table, Set};
+use mijdegen::{check, digest, layer, list, lookup_place, Listed, Refusal};
 use std::thread;
 
 #[test]
@@ -22,4 +24,72 @@ fn calls_at_the_same_time() {
             });
         }
     });
+}
+
+#[test]
+fn reading_calls_at_the_same_time() {
+    // 4 threads with 40 registers each, all different and of different counts. Every second one
+    // is cut. What the calls give is known before they run side by side, 200 times each.
+    thread::scope(|scope| {
+        for seed in 1..=4 {
+            scope.spawn(move || {
+                let mut random = Random::new(10 + seed);
+                let cases: Vec<_> = (0..40).map(|count| case(&mut random, count)).collect();
+                for _ in 0..200 {
+                    for (register, key, expected) in &cases {
+                        assert_eq!(results(register, key), *expected);
+                    }
+                }
+            });
+        }
+    });
+}
+
+/// What check, lookup and list give, and the key that list writes.
+type Results = (
+    Result<usize, Refusal>,
+    Result<usize, Refusal>,
+    Result<Option<Listed>, Refusal>,
+    [u8; 40],
+);
+
+/// Gives a register of so many records, or a part of it, with its last key and the results.
+fn case(random: &mut Random, count: usize) -> (Vec<u8>, Vec<u8>, Results) {
+    let set: Set = (0..count)
+        .map(|_| {
+            let key = format!("thread/{}", random.next());
+            (key.into_bytes(), value(random))
+        })
+        .collect();
+    let mut register = table(&set);
+    register.truncate(register.len() - count % 2);
+
+    let last = set.last_key_value();
+    let (key, value) = last.map_or((b"a/b1".to_vec(), [0; 32]), |(key, value)| {
+        (key.clone(), *value)
+    });
+    if count % 2 == 1 {
+        let refused = Refusal::EndsEarly;
+        let results = (Err(refused), Err(refused), Err(refused), [0; 40]);
+        return (register, key, results);
+    }
+    let place = independent::lookup(&register, &key).map_err(|_| Refusal::KeyAbsent);
+    let mut out = [0; 40];
+    let listed = last.map(|_| {
+        out[..key.len()].copy_from_slice(&key);
+        Listed {
+            key_length: key.len(),
+            value,
+        }
+    });
+    (register, key, (Ok(count), place, Ok(listed), out))
+}
+
+/// Checks the register, looks for the key and lists the record of the last number.
+fn results(register: &[u8], key: &[u8]) -> Results {
+    let count = check(register);
+    let n = count.unwrap_or(0).saturating_sub(1);
+    let mut out = [0xaa; 40];
+    let listed = list(register, n, &mut out);
+    (count, lookup_place(register, key), listed, out)
 }

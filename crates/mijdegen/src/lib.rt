@@ -3,6 +3,8 @@ ghost use mathlib.Core.Path.{_≡_};
 ghost use Rattle.answer.specs.Answer.{encoded};
 ghost use Rattle.sha256.specs.Digest.{digestAnswer, digestOutput};
 ghost use Rattle.key.specs.Layer.{layerAnswer};
+ghost use lib.ListN.{length};
+ghost use Rattle.register.specs.Outcome.{checkAnswer, lookupAnswer, listOutcome, listAnswer, listKey, listValue};
 
 #[no_mangle]
 pub extern "C" fn mijdegen_digest(input: &[u8], out: &mut [u8; 32]) -> u64
@@ -17,4 +19,27 @@ pub extern "C" fn mijdegen_layer(input: &[u8]) -> u64
     ensures { λ r. ⌜ r ≡ encoded (layerAnswer (now (input .entry))) ⌝ }
 {
     answer::encode(key::layer(input))
+}
+
+#[no_mangle]
+pub extern "C" fn mijdegen_check(lent: &[u8]) -> u64
+    ensures { λ r. ⌜ r ≡ encoded (checkAnswer (now (lent .entry))) ⌝ }
+{
+    answer::encode(register::check(lent))
+}
+
+#[no_mangle]
+pub extern "C" fn mijdegen_lookup(lent: &[u8], sought: &[u8]) -> u64
+    ensures { λ r. ⌜ r ≡ encoded (lookupAnswer (now (lent .entry)) (now (sought .entry))) ⌝ }
+{
+    answer::encode(register::lookup(lent, sought))
+}
+
+#[no_mangle]
+pub extern "C" fn mijdegen_list(lent: &[u8], n: u64, out: &mut [u8], value: &mut [u8; 32]) -> u64
+    ensures answer { λ r. ⌜ r ≡ encoded (listAnswer (listOutcome (now (lent .entry)) n (length (now (out .entry))))) ⌝ }
+    ensures key { λ _. ⌜ now (out .exit) ≡ listKey (listOutcome (now (lent .entry)) n (length (now (out .entry)))) (length (now (out .entry))) ⌝ }
+    ensures value { λ _. ⌜ now (value .exit) ≡ listValue (listOutcome (now (lent .entry)) n (length (now (out .entry)))) ⌝ }
+{
+    answer::encode(register::list(lent, n, out, value))
 }

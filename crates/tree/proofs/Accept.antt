@@ -1,7 +1,7 @@
 -- The table of a set that fits is accepted as that set's register, and what is accepted is the table of a set that fits.
 use Prim.Native.Nat.{ℕ, zero, suc, _+_, _≤_, _<_}
 use mathlib.Core.Path.{_≡_, refl, sym, ap, _∙_, subst}
-use mathlib.Core.Bool.{true}
+use mathlib.Core.Bool.{true, false≢true}
 use mathlib.Core.Option.{Option, none, some}
 use mathlib.Core.List.{List, [], _∷_, _++_, append-nil, map}
 use native.Mathlib.Omega.{arith}
@@ -22,7 +22,7 @@ use Rattle.page.proofs.Pages.{GoodGap, GoodEntry}
 use Rattle.tree.specs.Tree.{Page, page, Gap, empty, under, Entries, end, entry, items, itemsUnder, itemsFrom, topLayer}
 use Rattle.tree.specs.Record.{Record, Spelt, recordOf, keyed, keyedUnder, keyedFrom, spelt, speltUnder, speltFrom, records, placed}
 use Rattle.tree.specs.Table.{SpeltTree, linkOf, rawEntries, rawPage, bytesOfPage, table, digestOf, treeOfSet, tableOf, readTree, deepest}
-use Rattle.tree.specs.Judge.{due, isNone, most, prefixesRight, prefixesRightUnder, prefixesRightFrom, rightTree, digestsRight, digestsRightUnder, digestsRightFrom, tests, refused, accepted, settled, judgeRead, judge}
+use Rattle.tree.specs.Judge.{due, isNone, most, prefixesRight, prefixesRightUnder, prefixesRightFrom, allLawful, rising, rightTree, digestsRight, digestsRightUnder, digestsRightFrom, tests, refused, accepted, settled, judgeRead, judge}
 use Rattle.tree.proofs.Tests.{equal-true, equal-refl, AllTests, due-none, none-due, LawfulKey, RightValue, lawful-all, all-lawful, Fitting}
 use Rattle.tree.proofs.BuildLaws.{Layered, LayeredUnder, LayeredFrom, treeOf-layered, Labelled, LabelledUnder, LabelledFrom, labelled-treeOf}
 use Rattle.tree.proofs.Spelling.{keyed-spelt, prefixes-spelt, spelt-keyed}
@@ -47,10 +47,10 @@ module _ (t : SpeltTree) where
       let k = settled-accepts (due (tests u rest)) u t h in
       (rest, ap (λ (v : SpeltTree). read v rest) (k .1), subst (λ (v : SpeltTree). AllTests (tests v rest)) (k .1) (due-none (tests u rest) (k .0)))
 
-  none-left : (rest : List ℕ) → isNone rest ≡ true → rest ≡ []
-  unfolding isNone
-  none-left [] h = refl
-  none-left (b ∷ rest) h = let z : _≡_ {A = ℕ} 0 1 = cc in absurd (omega arith)
+none-left : (rest : List ℕ) → isNone rest ≡ true → rest ≡ []
+unfolding isNone
+none-left [] h = refl
+none-left (b ∷ rest) h = absurd (false≢true h)
 
 -- ---- right digests are the labels that the builder gives
 mutual
@@ -193,22 +193,13 @@ module _ (rs : List Record) (f : Fitting rs) where
 
   all-tests : AllTests (tests tree [])
   unfolding tests isNone
-  all-tests = (
-    refl,
-    (
-      rw (records-of-set rs) (le-leb (length rs) most (f .count)),
-      (
-        prefixes-spelt (treeOfSet rs),
-        (
-          rw (records-of-set rs) (all-lawful rs (f .keys)),
-          (
-            rw (records-of-set rs) (f .order),
-            (tree-is-right, (digests-spelt (treeOfSet rs) (labelled-set rs), tt)),
-          ),
-        ),
-      ),
-    ),
-  )
+  all-tests =
+      let e = records-of-set rs in
+      let count : leb (length (records tree)) most ≡ true = rw e (le-leb (length rs) most (f .count)) in
+      let keys : allLawful (records tree) ≡ true = rw e (all-lawful rs (f .keys)) in
+      let order : rising (records tree) ≡ true = rw e (f .order) in
+      let digests = digests-spelt (treeOfSet rs) (labelled-set rs) in
+      (refl, (count, (prefixes-spelt (treeOfSet rs), (keys, (order, (tree-is-right, (digests, tt)))))))
 
   pub table-accepted : judge (tableOf rs) ≡ accepted tree
   unfolding judge judgeRead settled tableOf
@@ -251,7 +242,7 @@ module _ (s : List ℕ) (bytes : Bytes s) (t : SpeltTree) where
   unfolding tests treeOfSet tableOf
   from-tests size rest r h =
       let b = tree-spells deepest .back s rest t bytes r in
-      let none-over : s ≡ table t = b .0 ∙ ap (λ (u : List ℕ). table t ++ u) (none-left t rest (h .0)) ∙ append-nil (table t) in
+      let none-over : s ≡ table t = b .0 ∙ ap (λ (u : List ℕ). table t ++ u) (none-left rest (h .0)) ∙ append-nil (table t) in
       let count : length (records t) ≤ most = leb-true (length (records t)) most (h .1 .0) in
       let prefixes : prefixesRight t ≡ true = h .1 .1 .0 in
       let digests : digestsRight t ≡ true = h .1 .1 .1 .1 .1 .1 .0 in

@@ -32,6 +32,18 @@ stand-length s [] (r ∷ rs) h = absurd h
 stand-length s (p ∷ ps) [] h = absurd h
 stand-length s (p ∷ ps) (r ∷ rs) h = ap suc (stand-length s ps rs (h .1))
 
+-- ---- an entry ends with its value
+abbrev front : RawEntry → List ℕ
+front e =
+    (0xA4 ∷ 0x61 ∷ 0x6B ∷ []) ++ (numberBytes byteString (length (e .remainder)) ++ (e .remainder ++ (
+    (0x61 ∷ 0x70 ∷ []) ++ (numberBytes plainNumber (e .shares) ++ (
+    (0x61 ∷ 0x74 ∷ []) ++ (gapBytes (e .after) ++ (
+    (0x61 ∷ 0x76 ∷ []) ++ linkHead)))))))
+
+entry-front : (e : RawEntry) → entryBytes e ≡ front e ++ e .val
+unfolding entryBytes linkBytes
+entry-front e = simp append-assoc
+
 module _ (s : List ℕ) where
   stand-append : (ps qs : List ℕ) (rs us : List Record) → Stand s ps rs → Stand s qs us → Stand s (ps ++ qs) (rs ++ us)
   stand-append [] qs [] us h k = k
@@ -53,18 +65,6 @@ module _ (s : List ℕ) where
   at-both at l m k h =
       let e : at + (length l + length m) ≡ at + length l + length m = omega arith in
       rw e (at-right (at + length l) m k (at-right at l (m ++ k) h))
-
-  -- ---- an entry ends with its value
-  abbrev front : RawEntry → List ℕ
-  front e =
-      (0xA4 ∷ 0x61 ∷ 0x6B ∷ []) ++ (numberBytes byteString (length (e .remainder)) ++ (e .remainder ++ (
-      (0x61 ∷ 0x70 ∷ []) ++ (numberBytes plainNumber (e .shares) ++ (
-      (0x61 ∷ 0x74 ∷ []) ++ (gapBytes (e .after) ++ (
-      (0x61 ∷ 0x76 ∷ []) ++ linkHead)))))))
-
-  entry-front : (e : RawEntry) → entryBytes e ≡ front e ++ e .val
-  unfolding entryBytes linkBytes
-  entry-front e = simp append-assoc
 
   value-at : (at : ℕ) (e : RawEntry) → GoodEntry e → At at (entryBytes e) → take 32 (drop (at + length (entryBytes e) - 32) s) ≡ e .val
   value-at at e g h =

@@ -133,12 +133,13 @@ judgeRead (read t rest) = settled (due (tests t rest)) t
 unfoldable pub judge : List ℕ → Verdict
 judge s = cond (leb (length s) longest) (judgeRead (readTree deepest s)) (refused TooLong)
 
--- A set fits with at most 4,096 records, no two of them under one key, lawful keys and a table of at most 4,194,304 bytes. A set is written
--- as the list of its records in key order.
+-- Each value has 32 bytes.
 unfoldable pub allValues : List Record → Bool
 allValues [] = true
 allValues (r ∷ rs) = isValue (r .val) && allValues rs
 
+-- A set fits with at most 4,096 records, no two of them under one key, lawful keys and a table of at most 4,194,304 bytes. A set is written
+-- as the list of its records in key order.
 unfoldable pub fits : List Record → Bool
 fits rs =
     leb (length rs) most && (rising rs && (allLawful rs && (allValues rs && leb (length (tableOf rs)) longest)))

@@ -1,4 +1,7 @@
-//! Timing of two tasks that do the same work, for all benches.
+//! Timing of several tasks in one run, for all benches.
+
+// Each bench is compiled with its own copy of this module and may not use all of it.
+#![allow(dead_code)]
 
 use std::hint::black_box;
 use std::time::{Duration, Instant};
@@ -6,13 +9,13 @@ use std::time::{Duration, Instant};
 /// How long one sample takes at least, so that reading the clock costs little beside it.
 const SAMPLE: Duration = Duration::from_micros(500);
 
-/// How long the samples of one comparison take together, at least.
-const TOTAL: Duration = Duration::from_secs(3);
+/// How long the samples of one task take together, at least, where all tasks are equally fast.
+const TOTAL: Duration = Duration::from_millis(1_500);
 
-/// How many samples of each task a comparison takes at least.
+/// How many samples of each task are taken at least.
 const SAMPLES: usize = 40;
 
-/// The best times of one call of two tasks, in seconds.
+/// The best times of one call of two tasks that do the same work, in seconds.
 pub struct Best {
     /// The time of the library.
     pub library: f64,
@@ -27,23 +30,39 @@ impl Best {
     }
 }
 
-/// Times both tasks in turn and keeps the best time of each. In turn, because the speed of the
-/// machine changes over time; the best, because all disturbances make a call slower.
+/// Gives the best times of two tasks that do the same work.
 pub fn compare<A, B>(mut library: impl FnMut() -> A, mut independent: impl FnMut() -> B) -> Best {
-    let library_calls = calls_per_sample(&mut library);
-    let independent_calls = calls_per_sample(&mut independent);
+    let times = best_times(&mut [
+        &mut || {
+            black_box(library());
+        },
+        &mut || {
+            black_box(independent());
+        },
+    ]);
+    Best {
+        library: times[0],
+        independent: times[1],
+    }
+}
 
-    let mut best = Best {
-        library: f64::INFINITY,
-        independent: f64::INFINITY,
-    };
+/// Times all tasks in turn and gives the best time of one call of each, in seconds. In turn,
+/// because the speed of the machine changes over time; the best, because all disturbances make a
+/// call slower.
+pub fn best_times(tasks: &mut [&mut dyn FnMut()]) -> Vec<f64> {
+    let calls: Vec<u32> = tasks
+        .iter_mut()
+        .map(|task| calls_per_sample(*task))
+        .collect();
+    let mut best = vec![f64::INFINITY; tasks.len()];
+
+    let total = TOTAL * tasks.len() as u32;
     let start = Instant::now();
     let mut samples = 0;
-    while samples < SAMPLES || start.elapsed() < TOTAL {
-        let time = sample(&mut library, library_calls);
-        best.library = best.library.min(time);
-        let time = sample(&mut independent, independent_calls);
-        best.independent = best.independent.min(time);
+    while samples < SAMPLES || start.elapsed() < total {
+        for ((task, calls), best) in tasks.iter_mut().zip(&calls).zip(&mut best) {
+            *best = best.min(sample(*task, *calls));
+        }
         samples += 1;
     }
     best
@@ -55,7 +74,7 @@ pub fn megabytes_per_second(bytes: usize, seconds: f64) -> f64 {
 }
 
 /// Doubles the number of calls until a sample is long enough.
-fn calls_per_sample<T>(task: &mut impl FnMut() -> T) -> u32 {
+fn calls_per_sample(task: &mut dyn FnMut()) -> u32 {
     let mut calls = 1;
     while sample(task, calls) * f64::from(calls) < SAMPLE.as_secs_f64() {
         calls *= 2;
@@ -64,10 +83,10 @@ fn calls_per_sample<T>(task: &mut impl FnMut() -> T) -> u32 {
 }
 
 /// Gives the mean time of one call, in seconds.
-fn sample<T>(task: &mut impl FnMut() -> T, calls: u32) -> f64 {
+fn sample(task: &mut dyn FnMut(), calls: u32) -> f64 {
     let start = Instant::now();
     for _ in 0..calls {
-        black_box(task());
+        task();
     }
     start.elapsed().as_secs_f64() / f64::from(calls)
 }

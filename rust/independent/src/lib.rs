@@ -2,56 +2,42 @@
 //!
 //! The tests and benches of `mijdegen` compare the library with this crate, so it shares no code
 //! with the library and does not link it. It is written to be read, not to be fast.
+//!
+//! A refused call gives its number, from 1 to 13; [`number`] names them.
 
 #![forbid(unsafe_code)]
 #![warn(missing_docs)]
 
+mod calls;
+mod key;
+pub mod number;
+mod reader;
 mod sha256;
+mod table;
+pub mod tree;
 
+pub use calls::{
+    check, difference, join, join_in, list, lookup, merge, merge_in, put, put_in, remove,
+    remove_from, result_table, set_of,
+};
+pub use key::{lawful, layer, LONGEST_KEY};
 pub use sha256::sha256;
+pub use table::{pages, table, tree_of};
 
-/// Gives the layer of the input: half the number of leading zero bits of its SHA-256 digest,
-/// rounded down.
-pub fn layer(input: &[u8]) -> u8 {
-    (leading_zero_bits(&sha256(input)) / 2) as u8
-}
+use std::collections::BTreeMap;
 
-/// Counts the zero bits before the first one bit, from the highest bit of the first byte.
-fn leading_zero_bits(digest: &[u8; 32]) -> u32 {
-    let mut count = 0;
-    for byte in digest {
-        for place in (0..8).rev() {
-            if (byte >> place) & 1 == 1 {
-                return count;
-            }
-            count += 1;
-        }
-    }
-    count
-}
+/// A SHA-256 digest.
+pub type Digest = [u8; 32];
 
-#[cfg(test)]
-mod tests {
-    use super::{layer, leading_zero_bits};
+/// The value of a record: the digest of a block that is kept elsewhere.
+pub type Value = [u8; 32];
 
-    #[test]
-    fn each_number_of_leading_zero_bits() {
-        // 256 digests, each with its first one bit at another place, and ones after it.
-        for zeros in 0..256 {
-            let mut digest = [0xff; 32];
-            for place in 0..zeros {
-                digest[place / 8] &= !(0x80 >> (place % 8));
-            }
-            assert_eq!(leading_zero_bits(&digest), zeros as u32);
-        }
-        assert_eq!(leading_zero_bits(&[0; 32]), 256);
-    }
+/// A set of records: the value of each key, in key order. Keys are ordered byte by byte, and a
+/// key stands before every longer key that begins with it.
+pub type Set = BTreeMap<Vec<u8>, Value>;
 
-    #[test]
-    fn published_layers() {
-        assert_eq!(layer(b"2653ae71"), 0);
-        assert_eq!(layer(b"blue"), 1);
-        assert_eq!(layer(b"app.bsky.feed.post/454397e440ec"), 4);
-        assert_eq!(layer(b"app.bsky.feed.post/9adeb165882c"), 8);
-    }
-}
+/// The length in bytes of the longest register.
+pub const LONGEST: usize = 4_194_304;
+
+/// How many records a register holds at most.
+pub const MOST_RECORDS: usize = 4_096;

@@ -3,6 +3,10 @@
 // Each test file is compiled with its own copy of this module and may not use all of it.
 #![allow(dead_code)]
 
+pub mod calls;
+pub mod forge;
+pub mod sets;
+
 /// A xorshift generator of 64 bits. A fixed seed gives the same cases in every run.
 pub struct Random(u64);
 
@@ -26,6 +30,11 @@ impl Random {
     pub fn below(&mut self, limit: usize) -> usize {
         // The high bits, since the low bits of a xorshift are the weaker ones.
         ((self.next() >> 16) % limit as u64) as usize
+    }
+
+    /// Gives one of the items.
+    pub fn one_of<'a, T>(&mut self, items: &'a [T]) -> &'a T {
+        &items[self.below(items.len())]
     }
 
     /// Gives this many bytes.

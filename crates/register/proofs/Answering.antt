@@ -1,0 +1,105 @@
+-- The answer of a lookup, by cases of the verdict, the key rule and the search.
+use Prim.Native.Nat.{ℕ, _+_, _^_, _≤_, _<_}
+use mathlib.Core.Path.{_≡_, refl, sym, ap, subst, _∙_}
+use mathlib.Core.Bool.{Bool, true, false, not}
+use mathlib.Core.Option.{none, some}
+use mathlib.Core.List.{List, [], _∷_, map}
+use native.Mathlib.Omega.{arith}
+use lib.ListN.{length}
+use Rattle.answer.specs.declared.Refusal.{Refusal}
+use Rattle.answer.specs.declared.Refusal.the-variants.{UnlawfulKey, KeyAbsent}
+use Rattle.answer.specs.declared.Answer.the-variants.{Done, Refused}
+use Rattle.fips180.specs.Bytes.{Bytes}
+use Rattle.key.specs.Key.{lawful, less}
+use Rattle.page.proofs.Tools.{cond-inv}
+use Rattle.tree.specs.Record.{Record, records}
+use Rattle.tree.specs.Table.{SpeltTree}
+use Rattle.tree.specs.Judge.{most}
+use Rattle.tree.specs.Place.{places}
+use Rattle.page.proofs.Tools.{All}
+use Rattle.tree.proofs.Accept as accept
+use Rattle.index.specs.Slot.{Slot, slots}
+use Rattle.index.specs.Standing.{SlotAt}
+use Rattle.index.specs.Walk.{RegisterSays, AcceptedIndex}
+use Rattle.index.specs.declared.Register.{Register}
+use Rattle.index.specs.declared.Register.the-variants.{Accepted, Refused as Unfit}
+use Rattle.index.proofs.SlotLaws.{slots-places}
+use Rattle.index.proofs.Standing.{accepted-slots-stand, value-within}
+use Rattle.register.specs.Outcome.{placeOf, lookupAnswer, lookupVerdict, answerPlace}
+use Rattle.register.specs.Fetch.{placeFound, SearchSays}
+use Rattle.register.specs.declared.search.Searched.{Searched}
+use Rattle.register.specs.declared.search.Searched.the-variants.{At, Absent}
+
+-- ---- every value of an accepted register stands within it
+values-within : (s : List ℕ) (xs : List Slot) → All (SlotAt s) xs → All (λ p. p + 32 ≤ length s) (map (λ x. x .value) xs)
+values-within s [] h = tt
+values-within s (x ∷ xs) h = (value-within (h .0), values-within s xs (h .1))
+
+none≢some : {p : ℕ} → none ≡ some p → ⊥
+none≢some e = let z : _≡_ {A = ℕ} 0 1 = cc in omega arith
+
+some-place : {p q : ℕ} → some p ≡ some q → p ≡ q
+some-place e = cc
+
+-- the place of a key is one of the places
+place-among : (P : ℕ → Type 0) (k : List ℕ) (rs : List Record) (ps : List ℕ) (p : ℕ) → All P ps → placeOf k rs ps ≡ some p → P p
+unfolding placeOf
+place-among P k [] ps p h e = absurd (none≢some e)
+place-among P k (r ∷ rs) [] p h e = absurd (none≢some e)
+place-among P k (r ∷ rs) (q ∷ ps) p h e =
+    cond-inv (less k (r .key)) (λ _ f. absurd (none≢some f))
+    (λ _ f. cond-inv (less (r .key) k) (λ _ g. place-among P k rs ps p (h .1) g) (λ _ g. subst P (some-place g) (h .0)) f) e
+
+not-right : (b : Bool) → not b ≡ true → b ≡ false
+not-right true e = sym e
+not-right false e = refl
+
+not-wrong : (b : Bool) → not b ≡ false → b ≡ true
+not-wrong true e = refl
+not-wrong false e = sym e
+
+-- ---- the answer
+module _ (s index : List ℕ) (m : Register) (w : RegisterSays s m index) where
+  pub answer-refused : (r : Refusal) → m ≡ Unfit r → (k : List ℕ) → Refused r ≡ lookupAnswer s k
+  unfolding lookupAnswer lookupVerdict
+  answer-refused r q k =
+      let e = subst (λ (x : Register). RegisterSays s x index) q w in
+      rw e
+
+  module _ (count : ℕ) (q : m ≡ Accepted count) where
+    given : AcceptedIndex s index count
+    given = subst (λ (x : Register). RegisterSays s x index) q w
+
+    pub count-within : Bytes s → count ≤ most
+    count-within b = omega (arith, given .size, accept.accepted-table s b (given .tree) (given .judged) .fit .count)
+
+    pub answer-unlawful : (k : List ℕ) (ok : Bool) → ok ≡ lawful k → not ok ≡ true → Refused UnlawfulKey ≡ lookupAnswer s k
+    unfolding lookupAnswer lookupVerdict
+    answer-unlawful k ok e h = rw (given .judged, ← e, not-right ok h)
+
+    module _ (k : List ℕ) (r : Searched) (v : SearchSays s index count k r) where
+      searched : placeFound r ≡ placeOf k (records (given .tree)) (places 0 (given .tree))
+      unfolding SearchSays
+      searched = v (given .tree) (given .judged) (given .size) (given .indexed)
+
+      pub place-fits : Bytes s → (place : ℕ) → r ≡ At place → place < 2 ^ 32
+      place-fits b place p =
+          let t : SpeltTree = given .tree in
+          let a = accept.accepted-table s b t (given .judged) in
+          let within : All (λ i. i + 32 ≤ length s) (places 0 t) =
+          subst (All (λ i. i + 32 ≤ length s)) (slots-places 0 0 t) (values-within s (slots 0 0 t) (accepted-slots-stand s t b (given .judged))) in
+          let found : placeOf k (records t) (places 0 t) ≡ some place = sym searched ∙ ap placeFound p in
+          omega (arith, place-among (λ i. i + 32 ≤ length s) k (records t) (places 0 t) place within found, ap length (a .written), a .fit .size)
+
+      module _ (ok : Bool) (e : ok ≡ lawful k) (h : not ok ≡ false) where
+        answer-place : answerPlace (placeFound r) ≡ lookupAnswer s k
+        unfolding lookupAnswer lookupVerdict
+        answer-place = rw (given .judged, ← e, not-wrong ok h) (ap answerPlace searched)
+
+        pub answer-found : (place : ℕ) → r ≡ At place → Done place ≡ lookupAnswer s k
+        unfolding answerPlace
+        answer-found place p = ap (λ (x : Searched). answerPlace (placeFound x)) (sym p) ∙ answer-place
+
+        pub answer-absent : r ≡ Absent → Refused KeyAbsent ≡ lookupAnswer s k
+        unfolding answerPlace
+        answer-absent p = ap (λ (x : Searched). answerPlace (placeFound x)) (sym p) ∙ answer-place

@@ -1,0 +1,12 @@
+pub mod MapLaws
+pub mod MergeLaws
+pub mod Steps
+pub mod DifferenceLaws
+pub mod OpenedLaws
+pub mod Promises
+pub mod Outputs
+pub mod Verdicts
+pub mod Listings
+pub mod Fetching
+pub mod Searching
+pub mod Answering

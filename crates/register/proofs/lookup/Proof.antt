@@ -1,0 +1,74 @@
+use borrow.Author.Needs.{needs}
+use native.Mathlib.Omega.{arith}
+use Rattle.page.proofs.Tools.{bytes-of}
+use Rattle.register.proofs.Answering.{answer-refused, count-within, answer-unlawful, place-fits, answer-found, answer-absent}
+use Rattle.register.proofs.lookup.Statement.{statement}
+use Rattle.register.proofs.lookup.Tie as tie
+
+slice-aggregate-judge : tie.Need-slice-aggregate-judge
+slice-aggregate-judge c = search needs
+
+judge-requires : tie.Need-judge-requires
+judge-requires c κs = search needs
+
+enum-known-count : tie.Need-enum-known-count
+enum-known-count c = search needs
+
+is-lawful-requires : tie.Need-is-lawful-requires
+is-lawful-requires c κs = search needs
+
+returns : tie.Need-returns
+returns c = search (needs, answer-unlawful)
+
+slice-aggregate-search : tie.Need-slice-aggregate-search
+slice-aggregate-search c = search needs
+
+search-requires : tie.Need-search-requires
+search-requires c κs =
+    let bytes = bytes-of (c .before .before .before .before .before .before .before .before .before .before .before .args .register .now)
+    (λ i h. omega (arith, c .before .before .before .before .before .before .before .before .before .before .shared-slice-known .given i)) in
+    let few = count-within _ _ _ (c .before .before .before .before .before .before .before .judge .ensures) _ (c .before .before .before .before .count .given .1) bytes in
+    omega (arith, few, c .before .before .before .before .before .before .before .judge .kept)
+
+enum-known-place : tie.Need-enum-known-place
+enum-known-place c = search needs
+
+cast-t18 : tie.Need-cast-t18
+cast-t18 c =
+    let bytes = bytes-of (c .before .before .before .before .before .before .before .before .before .before .before .before .before .before .before .args .register .now)
+    (λ i h. omega (arith, c .before .before .before .before .before .before .before .before .before .before .before .before .before .before .shared-slice-known .given i)) in
+    search (needs, place-fits, bytes)
+
+enum-told : tie.Need-enum-told
+enum-told c = search needs
+
+enum-known-refusal : tie.Need-enum-known-refusal
+enum-known-refusal c = search needs
+
+returns-2 : tie.Need-returns-2
+returns-2 c = search (needs, answer-found)
+
+returns-3 : tie.Need-returns-3
+returns-3 c = search (needs, answer-absent)
+
+returns-4 : tie.Need-returns-4
+returns-4 c = search (needs, answer-refused)
+
+pub lookup-spec : {M : Type 1} → statement M
+lookup-spec =
+    tie.close
+    (tie.spec
+    slice-aggregate-judge
+    judge-requires
+    enum-known-count
+    is-lawful-requires
+    returns
+    slice-aggregate-search
+    search-requires
+    enum-known-place
+    cast-t18
+    enum-told
+    enum-known-refusal
+    returns-2
+    returns-3
+    returns-4)

@@ -1,0 +1,63 @@
+-- The sorted map: a set of records, written as the list of its records in key order, and what the calls do to it.
+use Prim.Native.Nat.{ℕ, zero, suc}
+use mathlib.Core.Bool.{Bool, true, false, cond}
+use mathlib.Core.Option.{Option, none, some}
+use mathlib.Core.List.{List, [], _∷_}
+use Rattle.key.specs.Key.{less}
+use Rattle.tree.specs.Record.{Record}
+
+-- The value under a key.
+unfoldable pub find : List ℕ → List Record → Option (List ℕ)
+find k [] = none
+find k (x ∷ m) =
+    let later : Option (List ℕ) = find k m in
+    cond (less k (x .key)) none (cond (less (x .key) k) later (some (x .val)))
+
+unfoldable pub isThere : {A : Type 0} → Option A → Bool
+isThere none = false
+isThere (some a) = true
+
+-- The record r in its place; where its key is there already, `choose` takes the value from the one there and the new one.
+unfoldable pub insert : (List ℕ → List ℕ → List ℕ) → Record → List Record → List Record
+insert choose r [] = r ∷ []
+insert choose r (x ∷ m) =
+    let later : List Record = insert choose r m in
+    cond (less (r .key) (x .key)) (r ∷ x ∷ m)
+    (cond (less (x .key) (r .key)) (x ∷ later)
+    (record { key = x .key; val = choose (x .val) (r .val) } ∷ m))
+
+-- Put sets a key's value.
+unfoldable pub put : Record → List Record → List Record
+put r m = insert (λ old new. new) r m
+
+-- The greater of two values, compared byte by byte from the first.
+unfoldable pub greater : List ℕ → List ℕ → List ℕ
+greater v w = cond (less v w) w v
+
+-- Join puts the record, but keeps the greater of two values.
+unfoldable pub join : Record → List Record → List Record
+join r m = insert greater r m
+
+-- Remove takes the record away.
+unfoldable pub remove : List ℕ → List Record → List Record
+remove k [] = []
+remove k (x ∷ m) =
+    let later : List Record = remove k m in
+    cond (less k (x .key)) (x ∷ m) (cond (less (x .key) k) (x ∷ later) m)
+
+-- Merge joins all records of the second into the first.
+unfoldable pub merge : List Record → List Record → List Record
+merge m [] = m
+merge m (r ∷ rs) = merge (join r m) rs
+
+-- The greater of what a key finds in two sets.
+unfoldable pub greaterFound : Option (List ℕ) → Option (List ℕ) → Option (List ℕ)
+greaterFound none w = w
+greaterFound (some v) none = some v
+greaterFound (some v) (some w) = some (greater v w)
+
+-- The n-th record in key order, n from 0.
+unfoldable pub nth : ℕ → List Record → Option Record
+nth n [] = none
+nth zero (r ∷ m) = some r
+nth (suc n) (r ∷ m) = nth n m

@@ -1,0 +1,66 @@
+-- The plain map of demand 3, and the library's calls on the register that is held, over lists of calls.
+use Prim.Native.Nat.{ℕ}
+use mathlib.Core.List.{List, [], _∷_}
+use Rattle.answer.specs.declared.Answer.{Answer}
+use Rattle.fips180.specs.Bytes.{ByteString}
+use Rattle.tree.specs.Record.{Record}
+use Rattle.tree.specs.Judge.{judge}
+use Rattle.register.specs.Outcome.{Outcome, stopped, wrote, Plan, carryOut, putPlan, joinPlan, removePlan, mergePlan, putOutcome, joinOutcome, removeOutcome, mergeOutcome, answerOf}
+
+-- A call: its kind, its arguments (for merge, the second register's bytes) and its output's length.
+pub data Call : Type 0 where
+  putCall : ByteString → ByteString → ℕ → Call
+  removeCall : ByteString → ℕ → Call
+  joinCall : ByteString → ByteString → ℕ → Call
+  mergeCall : ByteString → ℕ → Call
+
+-- ---- the map
+-- What a call asks and what set it results in, with the map's set as the first register's.
+unfoldable pub planOf : Call → List Record → Plan
+planOf (putCall k v room) m = putPlan (k .list) (v .list) m
+planOf (removeCall k room) m = removePlan (k .list) m
+planOf (joinCall k v room) m = joinPlan (k .list) (v .list) m
+planOf (mergeCall s room) m = mergePlan (judge (s .list)) m
+
+unfoldable pub roomOf : Call → ℕ
+roomOf (putCall k v room) = room
+roomOf (removeCall k room) = room
+roomOf (joinCall k v room) = room
+roomOf (mergeCall s room) = room
+
+-- If a number is due, the map answers the first one and keeps its set; otherwise it takes the new set and answers the length of its table.
+unfoldable pub mapOutcome : Call → List Record → Outcome
+mapOutcome c m = carryOut (planOf c m) (roomOf c)
+
+unfoldable pub nextSet : Outcome → List Record → List Record → List Record
+nextSet (stopped r) old new = old
+nextSet (wrote t) old new = new
+
+unfoldable pub mapAnswers : List Call → List Record → List Answer
+mapAnswers [] m = []
+mapAnswers (c ∷ cs) m = answerOf (mapOutcome c m) ∷ mapAnswers cs (nextSet (mapOutcome c m) m (planOf c m .result))
+
+unfoldable pub mapSet : List Call → List Record → List Record
+mapSet [] m = m
+mapSet (c ∷ cs) m = mapSet cs (nextSet (mapOutcome c m) m (planOf c m .result))
+
+-- ---- the library
+-- Each call is lent the register held, merge as its first.
+unfoldable pub callOutcome : Call → List ℕ → Outcome
+callOutcome (putCall k v room) s = putOutcome s (k .list) (v .list) room
+callOutcome (removeCall k room) s = removeOutcome s (k .list) room
+callOutcome (joinCall k v room) s = joinOutcome s (k .list) (v .list) room
+callOutcome (mergeCall u room) s = mergeOutcome s (u .list) room
+
+-- After a call that is not refused the table it wrote is held; after a refused one the register lent stays held.
+unfoldable pub nextHeld : Outcome → List ℕ → List ℕ
+nextHeld (stopped r) s = s
+nextHeld (wrote t) s = t
+
+unfoldable pub libraryAnswers : List Call → List ℕ → List Answer
+libraryAnswers [] s = []
+libraryAnswers (c ∷ cs) s = answerOf (callOutcome c s) ∷ libraryAnswers cs (nextHeld (callOutcome c s) s)
+
+unfoldable pub held : List Call → List ℕ → List ℕ
+held [] s = s
+held (c ∷ cs) s = held cs (nextHeld (callOutcome c s) s)

@@ -1,0 +1,48 @@
+// Bytes of outputs.
+ghost use mathlib.Core.Path.{_≡_};
+ghost use mathlib.Core.List.{_++_};
+ghost use Prim.Native.Nat.{_+_, _≤_};
+ghost use lib.ListN.{length, take, drop};
+ghost use Rattle.fips180.specs.Hash.{zeros};
+
+// The output, zero from end to end.
+pub fn clear(out: &mut [u8])
+    ensures { λ _. ⌜ now (out .exit) ≡ zeros (length (now (out .entry))) ⌝ }
+{
+    let mut i = 0;
+    while i < out.len() {
+        out[i] = 0;
+        i += 1;
+    }
+}
+
+// These bytes, at the front of the output.
+pub fn copy_in(out: &mut [u8], bytes: &[u8])
+    requires { ⌜ length (now bytes) ≤ length (now out) ⌝ }
+    ensures { λ _. ⌜ now (out .exit) ≡ now (bytes .entry) ++ drop (length (now (bytes .entry))) (now (out .entry)) ⌝ }
+{
+    let mut i = 0;
+    while i < bytes.len() {
+        out[i] = bytes[i];
+        i += 1;
+    }
+}
+
+// The 32 bytes at a place.
+pub fn value_at(s: &[u8], at: usize) -> [u8; 32]
+    ensures { λ r. ⌜ (at + 32 ≤ length (now (s .entry)) → r ≡ take 32 (drop at (now (s .entry)))) ⌝ }
+{
+    let mut value = [0u8; 32];
+    if s.len() < 32 {
+        return value;
+    }
+    if s.len() - 32 < at {
+        return value;
+    }
+    let mut i = 0;
+    while i < 32 {
+        value[i] = s[at + i];
+        i += 1;
+    }
+    value
+}

@@ -1,0 +1,198 @@
+//! The calls, each with the number that is due or with its answer and its whole output.
+//!
+//! An output is zero where the call is refused, and zero after what is written.
+
+use crate::key::lawful;
+use crate::number::{KEY_ABSENT, NO_ROOM, TOO_MANY_RECORDS, UNLAWFUL_KEY, VALUE_LENGTH};
+use crate::reader::{judge, ReadPage, Record};
+use crate::{sha256, table, Digest, Set, Value, LONGEST, MOST_RECORDS};
+use std::collections::HashSet;
+
+/// Gives the count of the register's records.
+pub fn check(register: &[u8]) -> Result<usize, u8> {
+    Ok(judge(register)?.records.len())
+}
+
+/// Gives the set that the register is the register of.
+pub fn set_of(register: &[u8]) -> Result<Set, u8> {
+    Ok(judge(register)?.set())
+}
+
+/// Gives the place in the register, counted from 0, where the 32 bytes of the key's value begin.
+pub fn lookup(register: &[u8], key: &[u8]) -> Result<usize, u8> {
+    let records = judge(register)?.records;
+    lawful_key(key)?;
+    match records.binary_search_by(|record| record.key.as_slice().cmp(key)) {
+        Ok(n) => Ok(records[n].place),
+        Err(_) => Err(KEY_ABSENT),
+    }
+}
+
+/// Writes the key and the value of the n-th record in key order, n from 0. Gives the key's
+/// length, or 0 past the end.
+pub fn list(register: &[u8], n: u64, out: &mut [u8], value: &mut Value) -> Result<usize, u8> {
+    out.fill(0);
+    value.fill(0);
+    let records = judge(register)?.records;
+    let record = usize::try_from(n).ok().and_then(|n| records.get(n));
+    let Some(record) = record else {
+        return Ok(0);
+    };
+    let length = record.key.len();
+    out.get_mut(..length)
+        .ok_or(NO_ROOM)?
+        .copy_from_slice(&record.key);
+    *value = *record.value;
+    Ok(length)
+}
+
+/// Writes the register in which the key has the value. Gives the table's length.
+pub fn put(register: &[u8], key: &[u8], value: &[u8], out: &mut [u8]) -> Result<usize, u8> {
+    out.fill(0);
+    let set = judge(register)?.set();
+    write(&put_in(set, key, value)?, out)
+}
+
+/// Writes the register without the key's record. Gives the table's length.
+pub fn remove(register: &[u8], key: &[u8], out: &mut [u8]) -> Result<usize, u8> {
+    out.fill(0);
+    let set = judge(register)?.set();
+    write(&remove_from(set, key)?, out)
+}
+
+/// Writes the register with the record, where a present key keeps the greater of two values.
+/// Gives the table's length.
+pub fn join(register: &[u8], key: &[u8], value: &[u8], out: &mut [u8]) -> Result<usize, u8> {
+    out.fill(0);
+    let set = judge(register)?.set();
+    write(&join_in(set, key, value)?, out)
+}
+
+/// Writes the first register with all records of the second joined. Gives the table's length.
+pub fn merge(first: &[u8], second: &[u8], out: &mut [u8]) -> Result<usize, u8> {
+    out.fill(0);
+    let first = judge(first)?.set();
+    let second = judge(second)?.set();
+    write(&merge_in(first, &second), out)
+}
+
+/// Writes the register of all records in opened pages of the second that the first does not hold,
+/// key and value. Gives the table's length and the number of opened pages.
+pub fn difference(first: &[u8], second: &[u8], out: &mut [u8]) -> Result<(usize, usize), u8> {
+    out.fill(0);
+    let first = judge(first)?;
+    let second = judge(second)?;
+
+    // A page of the second is known when its digest is that of some page of the first. It is
+    // opened when neither it nor a page above it is known.
+    let pages = first.root.in_table_order();
+    let known: HashSet<Digest> = pages.into_iter().map(digest_of).collect();
+    let mut opened = Vec::new();
+    open(&second.root, &known, &mut opened);
+
+    let held = first.set();
+    let lacking = |record: &Record| held.get(&record.key) != Some(record.value);
+    let set: Set = opened
+        .iter()
+        .flat_map(|page| page.own_records())
+        .filter(lacking)
+        .map(|record| (record.key, *record.value))
+        .collect();
+    Ok((write(&set, out)?, opened.len()))
+}
+
+/// Adds the opened pages among the page and those below it, in table order.
+fn open<'p, 'a>(
+    page: &'p ReadPage<'a>,
+    known: &HashSet<Digest>,
+    opened: &mut Vec<&'p ReadPage<'a>>,
+) {
+    if known.contains(&digest_of(page)) {
+        return;
+    }
+    opened.push(page);
+    for child in page.children() {
+        open(child, known, opened);
+    }
+}
+
+/// Gives the digest of a page in an accepted register: that in the link to it is right.
+fn digest_of(page: &ReadPage) -> Digest {
+    match page.linked_as {
+        Some(digest) => *digest,
+        None => sha256(page.bytes),
+    }
+}
+
+/// Puts a record into a set.
+pub fn put_in(mut set: Set, key: &[u8], value: &[u8]) -> Result<Set, u8> {
+    lawful_key(key)?;
+    let value = whole_value(value)?;
+    set.insert(key.to_vec(), value);
+    Ok(set)
+}
+
+/// Takes a record out of a set.
+pub fn remove_from(mut set: Set, key: &[u8]) -> Result<Set, u8> {
+    lawful_key(key)?;
+    match set.remove(key) {
+        Some(_) => Ok(set),
+        None => Err(KEY_ABSENT),
+    }
+}
+
+/// Joins a record with a set: a present key keeps the greater of two values.
+pub fn join_in(mut set: Set, key: &[u8], value: &[u8]) -> Result<Set, u8> {
+    lawful_key(key)?;
+    let value = whole_value(value)?;
+    join_record(&mut set, key, value);
+    Ok(set)
+}
+
+/// Joins all records of the second set with the first.
+pub fn merge_in(mut first: Set, second: &Set) -> Set {
+    for (key, value) in second {
+        join_record(&mut first, key, *value);
+    }
+    first
+}
+
+/// Gives an absent key the value, and a present one the greater of the two.
+fn join_record(set: &mut Set, key: &[u8], value: Value) {
+    let kept = set.entry(key.to_vec()).or_insert(value);
+    *kept = value.max(*kept);
+}
+
+/// Gives the table of a resulting set for an output of this length, or the number that is due:
+/// 5 for the count, then 13 for the output.
+pub fn result_table(set: &Set, output_length: usize) -> Result<Vec<u8>, u8> {
+    if set.len() > MOST_RECORDS {
+        return Err(TOO_MANY_RECORDS);
+    }
+    let table = table(set);
+    if table.len() > output_length || table.len() > LONGEST {
+        return Err(NO_ROOM);
+    }
+    Ok(table)
+}
+
+/// Writes the table of a resulting set into an output of zeros. Gives the table's length.
+fn write(set: &Set, out: &mut [u8]) -> Result<usize, u8> {
+    let table = result_table(set, out.len())?;
+    out[..table.len()].copy_from_slice(&table);
+    Ok(table.len())
+}
+
+/// Number 7 for a key argument.
+fn lawful_key(key: &[u8]) -> Result<(), u8> {
+    if lawful(key) {
+        Ok(())
+    } else {
+        Err(UNLAWFUL_KEY)
+    }
+}
+
+/// Number 11 for a value argument.
+fn whole_value(value: &[u8]) -> Result<Value, u8> {
+    value.try_into().map_err(|_| VALUE_LENGTH)
+}

@@ -1,0 +1,146 @@
+//! The key rule and the layer of a key.
+
+use crate::sha256;
+
+/// The length of the longest lawful key.
+pub const LONGEST_KEY: usize = 256;
+
+/// Says whether the key keeps the key rule: 3 to 256 bytes, with just one slash and at least one
+/// byte on each side of it; the other bytes are letters, digits, `.`, `-`, `_`, `:` and `~`.
+pub fn lawful(key: &[u8]) -> bool {
+    if key.len() < 3 || key.len() > LONGEST_KEY {
+        return false;
+    }
+    let mut sides = key.split(|byte| *byte == b'/');
+    let (Some(before), Some(after), None) = (sides.next(), sides.next(), sides.next()) else {
+        return false;
+    };
+    [before, after]
+        .iter()
+        .all(|side| !side.is_empty() && side.iter().all(|byte| is_plain(*byte)))
+}
+
+/// Says whether the byte may stand beside the slash in a key.
+fn is_plain(byte: u8) -> bool {
+    byte.is_ascii_alphanumeric() || b".-_:~".contains(&byte)
+}
+
+/// Gives the layer of the input: half the number of leading zero bits of its SHA-256 digest,
+/// rounded down.
+pub fn layer(input: &[u8]) -> u8 {
+    (leading_zero_bits(&sha256(input)) / 2) as u8
+}
+
+/// Counts the zero bits before the first one bit, from the highest bit of the first byte.
+fn leading_zero_bits(digest: &[u8; 32]) -> u32 {
+    let mut count = 0;
+    for byte in digest {
+        for place in (0..8).rev() {
+            if (byte >> place) & 1 == 1 {
+                return count;
+            }
+            count += 1;
+        }
+    }
+    count
+}
+
+#[cfg(test)]
+mod tests {
+    use super::{lawful, layer, leading_zero_bits};
+
+    #[test]
+    fn lawful_keys() {
+        let keys: [&[u8]; 8] = [
+            b"a/b",
+            b"a/b1",
+            b"./.",
+            b"-/_",
+            b":/~",
+            b"com.example.record/3jqfcqzm3fo2j",
+            b"AZaz09.-_:~/~:_-.90zaZA",
+            &[&[b'a'; 200][..], b"/", &[b'b'; 55]].concat(),
+        ];
+        for key in keys {
+            assert!(lawful(key), "{key:?}");
+        }
+    }
+
+    #[test]
+    fn unlawful_keys() {
+        let keys: [&[u8]; 15] = [
+            b"",
+            b"/",
+            b"a",
+            b"ab",
+            b"a/",
+            b"/a",
+            b"//",
+            b"abc",
+            b"ab/",
+            b"/ab",
+            b"a//b",
+            b"a/b/c",
+            b"/a/",
+            b"a/b c",
+            &[&[b'a'; 200][..], b"/", &[b'b'; 56]].concat(),
+        ];
+        for key in keys {
+            assert!(!lawful(key), "{key:?}");
+        }
+    }
+
+    #[test]
+    fn each_byte_beside_the_slash() {
+        let plain = b"ABCDEFGHIJKLMNOPQRSTUVWXYZabcdefghijklmnopqrstuvwxyz0123456789.-_:~";
+        // 26 + 26 + 10 + 5 bytes.
+        assert_eq!(plain.len(), 67);
+        // 256 bytes at 4 places.
+        for byte in 0..=255 {
+            let expected = plain.contains(&byte);
+            assert_eq!(lawful(&[byte, b'/', b'b']), expected, "{byte}");
+            assert_eq!(lawful(&[b'a', b'/', byte]), expected, "{byte}");
+            assert_eq!(lawful(&[b'a', byte, b'/', b'b']), expected, "{byte}");
+            assert_eq!(lawful(&[b'a', b'/', byte, b'b']), expected, "{byte}");
+        }
+    }
+
+    #[test]
+    fn each_number_of_leading_zero_bits() {
+        // 256 digests, each with its first one bit at another place, and ones after it.
+        for zeros in 0..256 {
+            let mut digest = [0xff; 32];
+            for place in 0..zeros {
+                digest[place / 8] &= !(0x80 >> (place % 8));
+            }
+            assert_eq!(leading_zero_bits(&digest), zeros as u32);
+        }
+        assert_eq!(leading_zero_bits(&[0; 32]), 256);
+    }
+
+    /// The scope's rows of first digest bytes and layers.
+    #[test]
+    fn rows_of_digests() {
+        let rows: [(&[u8], u32); 5] = [
+            (&[0x80], 0),
+            (&[0x3f], 1),
+            (&[0x1f], 1),
+            (&[0x0f], 2),
+            (&[0x00, 0x3f], 5),
+        ];
+        for (first, layer) in rows {
+            let mut digest = [0; 32];
+            digest[..first.len()].copy_from_slice(first);
+            assert_eq!(leading_zero_bits(&digest) / 2, layer, "{first:?}");
+        }
+        assert_eq!(leading_zero_bits(&[0; 32]) / 2, 128);
+    }
+
+    #[test]
+    fn published_layers() {
+        assert_eq!(layer(b"2653ae71"), 0);
+        assert_eq!(layer(b"blue"), 1);
+        assert_eq!(layer(b"app.bsky.feed.post/454397e440ec"), 4);
+        assert_eq!(layer(b"app.bsky.feed.post/9adeb165882c"), 8);
+    }
+}

@@ -1,0 +1,230 @@
+//! The writing calls and the reading calls against plain work on sets.
+
+use independent::{
+    check, difference, join, layer, list, lookup, merge, pages, put, remove, set_of, sha256, table,
+    tree, tree_of, Digest, Set, Value,
+};
+use std::collections::BTreeSet;
+
+/// A generator of numbers, the same in every run.
+struct Random(u64);
+
+impl Random {
+    fn below(&mut self, limit: usize) -> usize {
+        self.0 = self.0.wrapping_mul(6_364_136_223_846_793_005);
+        self.0 = self.0.wrapping_add(1_442_695_040_888_963_407);
+        (self.0 >> 33) as usize % limit
+    }
+
+    /// One of few values, so that two records often have the same.
+    fn value(&mut self) -> Value {
+        let mut value = [0; 32];
+        value[31] = self.below(3) as u8;
+        value[0] = self.below(2) as u8;
+        value
+    }
+
+    /// One of few keys.
+    fn key(&mut self) -> Vec<u8> {
+        format!("few/{}", self.below(60)).into_bytes()
+    }
+
+    fn set(&mut self, most: usize) -> Set {
+        let count = self.below(most + 1);
+        (0..count).map(|_| (self.key(), self.value())).collect()
+    }
+}
+
+/// Calls with an output of 20,000 bytes. Gives what was written, after a check that zeros follow.
+fn written(call: impl FnOnce(&mut [u8]) -> Result<usize, u8>) -> Result<Vec<u8>, u8> {
+    let mut out = vec![0xaa; 20_000];
+    let length = call(&mut out);
+    let rest = *length.as_ref().unwrap_or(&0);
+    assert!(out[rest..].iter().all(|byte| *byte == 0));
+    out.truncate(rest);
+    length.map(|_| out)
+}
+
+#[test]
+fn what_is_written_is_read_back() {
+    let mut random = Random(1);
+    for _ in 0..500 {
+        let set = random.set(60);
+        let register = table(&set);
+        assert_eq!(set_of(&register), Ok(set.clone()));
+        assert_eq!(check(&register), Ok(set.len()));
+        assert_eq!(pages(&set).len(), tree_of(&set).pages());
+    }
+}
+
+#[test]
+fn lookup_and_list() {
+    let mut random = Random(2);
+    for _ in 0..100 {
+        let set = random.set(60);
+        let register = table(&set);
+        for (n, (key, value)) in set.iter().enumerate() {
+            let place = lookup(&register, key).expect("the key is present");
+            assert_eq!(register[place..place + 32], *value);
+
+            let (mut out, mut listed) = ([0xaa; 10], [0xaa; 32]);
+            let length = list(&register, n as u64, &mut out, &mut listed);
+            assert_eq!(length, Ok(key.len()));
+            assert_eq!(out[..key.len()], **key);
+            assert!(out[key.len()..].iter().all(|byte| *byte == 0));
+            assert_eq!(listed, *value);
+        }
+        for n in [set.len() as u64, set.len() as u64 + 1, u64::MAX] {
+            let (mut out, mut listed) = ([0xaa; 10], [0xaa; 32]);
+            assert_eq!(list(&register, n, &mut out, &mut listed), Ok(0));
+            assert_eq!((out, listed), ([0; 10], [0; 32]));
+            assert_eq!(list(&register, n, &mut [], &mut listed), Ok(0));
+        }
+    }
+}
+
+/// Random calls one after the other, against a set that is changed by hand.
+#[test]
+fn a_list_of_calls() {
+    let mut random = Random(3);
+    let mut set = Set::new();
+    let mut register = table(&set);
+    for _ in 0..2_000 {
+        let (key, value) = (random.key(), random.value());
+        let result = match random.below(4) {
+            0 => {
+                set.insert(key.clone(), value);
+                written(|out| put(&register, &key, &value, out))
+            }
+            1 => {
+                let expected = set.remove(&key).ok_or(12);
+                let result = written(|out| remove(&register, &key, out));
+                assert_eq!(result.as_ref().err(), expected.as_ref().err());
+                if result.is_err() {
+                    continue;
+                }
+                result
+            }
+            2 => {
+                // None is less than every value.
+                if set.get(&key) < Some(&value) {
+                    set.insert(key.clone(), value);
+                }
+                written(|out| join(&register, &key, &value, out))
+            }
+            _ => {
+                let second = random.set(5);
+                for (key, value) in &second {
+                    if set.get(key) < Some(value) {
+                        set.insert(key.clone(), *value);
+                    }
+                }
+                written(|out| merge(&register, &table(&second), out))
+            }
+        };
+        assert_eq!(result, Ok(table(&set)));
+        register = table(&set);
+    }
+    assert!(set.len() > 20);
+}
+
+#[test]
+fn merge_laws() {
+    let mut random = Random(4);
+    for _ in 0..200 {
+        let [a, b, c] = [0; 3].map(|_| table(&random.set(30)));
+        let merged = |first: &[u8], second: &[u8]| {
+            written(|out| merge(first, second, out)).expect("the sets are small")
+        };
+        assert_eq!(merged(&a, &b), merged(&b, &a));
+        assert_eq!(merged(&merged(&a, &b), &c), merged(&a, &merged(&b, &c)));
+        assert_eq!(merged(&a, &a), a);
+    }
+}
+
+/// Counts the opened pages by the definition: neither the page nor one above it is known.
+fn opened_pages(first: &Set, second: &Set) -> usize {
+    let known: BTreeSet<Digest> = pages(first).iter().map(|page| sha256(page)).collect();
+    // The tree tells how many pages stand below each page, and the table order where they are.
+    fn visit(
+        tree: &tree::Page<(&[u8], &Value)>,
+        rest: &mut std::slice::Iter<Vec<u8>>,
+        above: bool,
+        known: &BTreeSet<Digest>,
+    ) -> usize {
+        let page = rest.next().expect("each page has its bytes");
+        let above = above || known.contains(&sha256(page));
+        let mut opened = usize::from(!above);
+        let after = tree.entries.iter().map(|(_, gap)| gap);
+        for gap in [&tree.left].into_iter().chain(after).flatten() {
+            opened += visit(gap, rest, above, known);
+        }
+        opened
+    }
+    let pages = pages(second);
+    visit(&tree_of(second), &mut pages.iter(), false, &known)
+}
+
+#[test]
+fn differences() {
+    let mut random = Random(5);
+    let mut opened_in_all = 0;
+    for case in 0..400 {
+        let first = random.set(60);
+        // Half of the second sets are near the first.
+        let second = if case % 2 == 0 {
+            let mut near = first.clone();
+            near.insert(random.key(), random.value());
+            near.remove(&random.key());
+            near
+        } else {
+            random.set(60)
+        };
+        let lacking: Set = second
+            .iter()
+            .filter(|(key, value)| first.get(*key) != Some(value))
+            .map(|(key, value)| (key.clone(), *value))
+            .collect();
+
+        let mut opened = 0;
+        let result = written(|out| {
+            let (length, count) = difference(&table(&first), &table(&second), out)?;
+            opened = count;
+            Ok(length)
+        });
+        assert_eq!(result, Ok(table(&lacking)));
+        assert_eq!(opened, opened_pages(&first, &second));
+        opened_in_all += opened;
+    }
+    assert!(opened_in_all > 1_000);
+}
+
+#[test]
+fn differences_of_empty_registers() {
+    let empty = table(&Set::new());
+    let full = table(&Set::from([(b"a/b1".to_vec(), [1; 32])]));
+    let mut out = [0; 64];
+    assert_eq!(difference(&empty, &empty, &mut out), Ok((7, 0)));
+    assert_eq!(difference(&full, &full, &mut out), Ok((7, 0)));
+    assert_eq!(difference(&full, &empty, &mut out), Ok((7, 1)));
+    assert_eq!(difference(&empty, &full, &mut out), Ok((64, 1)));
+    assert_eq!(out[..], full);
+}
+
+/// Each page holds the keys of its layer, and each key stands in the place that its layer gives.
+#[test]
+fn layers_in_the_tree() {
+    fn visit(page: &tree::Page<(&[u8], &Value)>, wanted: u8) {
+        for ((key, _), gap) in &page.entries {
+            assert_eq!(layer(key), wanted);
+            gap.iter().for_each(|page| visit(page, wanted - 1));
+        }
+        page.left.iter().for_each(|page| visit(page, wanted - 1));
+        assert!(!page.entries.is_empty() || page.left.is_some());
+    }
+    let set: Set = (0..1_000)
+        .map(|number| (format!("layers/{number}").into_bytes(), [0; 32]))
+        .collect();
+    let highest = set.keys().map(|key| layer(key)).max();
+    visit(&tree_of(&set), highest.expect("the set has records"));
+}

@@ -1,0 +1,326 @@
+//! The scope's small example of each number, and how numbers go before one another.
+
+use independent::{
+    check, difference, join, list, lookup, merge, put, remove, sha256, table, Set, Value, LONGEST,
+    MOST_RECORDS,
+};
+
+const EMPTY: [u8; 7] = [0xa2, 0x61, 0x65, 0x80, 0x61, 0x6c, 0xf6];
+
+const VALUE: Value = [0x11; 32];
+
+/// Writes a link, or null.
+fn link(digest: Option<[u8; 32]>) -> Vec<u8> {
+    match digest {
+        Some(digest) => [&b"\xd8\x2a\x58\x25\x00\x01\x71\x12\x20"[..], &digest].concat(),
+        None => vec![0xf6],
+    }
+}
+
+/// Writes an entry with a remainder and a prefix of less than 24, and no link.
+fn entry(prefix: u8, remainder: &[u8]) -> Vec<u8> {
+    linked_entry(prefix, remainder, None)
+}
+
+fn linked_entry(prefix: u8, remainder: &[u8], after: Option<[u8; 32]>) -> Vec<u8> {
+    assert!(prefix < 24 && remainder.len() < 24);
+    let mut bytes = b"\xa4\x61k".to_vec();
+    bytes.push(0x40 + remainder.len() as u8);
+    bytes.extend(remainder);
+    bytes.extend([0x61, b'p', prefix, 0x61, b't']);
+    bytes.extend(link(after));
+    bytes.extend([0x61, b'v']);
+    bytes.extend(link(Some(VALUE)));
+    bytes
+}
+
+/// Writes a page of less than 24 entries.
+fn page(entries: &[Vec<u8>], left: Option<[u8; 32]>) -> Vec<u8> {
+    assert!(entries.len() < 24);
+    let mut bytes = b"\xa2\x61e".to_vec();
+    bytes.push(0x80 + entries.len() as u8);
+    bytes.extend(entries.concat());
+    bytes.extend([0x61, b'l']);
+    bytes.extend(link(left));
+    bytes
+}
+
+/// A register of two pages: `a/b1` of layer 0 stands before `a/b2` of layer 1.
+fn two_pages() -> Vec<u8> {
+    let below = page(&[entry(0, b"a/b1")], None);
+    let root = page(&[entry(0, b"a/b2")], Some(sha256(&below)));
+    [root, below].concat()
+}
+
+/// Gives a set of so many records.
+fn many(count: usize) -> Set {
+    (0..count)
+        .map(|number| (format!("many/{number:05}").into_bytes(), VALUE))
+        .collect()
+}
+
+#[test]
+fn number_1() {
+    assert_eq!(check(&vec![0; LONGEST + 1]), Err(1));
+    // At the limit the first byte departs.
+    assert_eq!(check(&vec![0; LONGEST]), Err(3));
+}
+
+#[test]
+fn number_2() {
+    assert_eq!(check(&EMPTY[..6]), Err(2));
+    assert_eq!(check(&[]), Err(2));
+    // Each part of a register from its start.
+    let register = two_pages();
+    for length in 0..register.len() {
+        assert_eq!(check(&register[..length]), Err(2), "length {length}");
+    }
+    assert_eq!(check(&register), Ok(2));
+}
+
+#[test]
+fn number_3() {
+    assert_eq!(check(&[0xa2, 0x61, 0x6c]), Err(3));
+}
+
+#[test]
+fn number_4() {
+    assert_eq!(check(&[&EMPTY[..], &[0xf6]].concat()), Err(4));
+    assert_eq!(check(&[EMPTY, EMPTY].concat()), Err(4));
+    assert_eq!(check(&EMPTY), Ok(0));
+}
+
+#[test]
+fn number_5() {
+    let register = table(&many(MOST_RECORDS));
+    assert_eq!(check(&register), Ok(MOST_RECORDS));
+    assert_eq!(check(&table(&many(MOST_RECORDS + 1))), Err(5));
+
+    let mut out = vec![0xaa; 2_000_000];
+    assert_eq!(put(&register, b"a/b1", &VALUE, &mut out), Err(5));
+    assert!(out.iter().all(|byte| *byte == 0));
+    // A present key is put, as the count stays.
+    let length = put(&register, b"many/00000", &VALUE, &mut out);
+    assert_eq!(length, Ok(register.len()));
+}
+
+#[test]
+fn number_6() {
+    assert_eq!(check(&page(&[entry(1, b"a/b1")], None)), Err(6));
+    // A remainder that begins with another byte than the key before has there: the prefix is
+    // right up to the length of the key before. The keys are `2`, `a2`, `a/2`, `a/b2`, `a/b12`.
+    for (prefix, number) in [(0, 7), (1, 7), (2, 8), (3, 9), (5, 6), (6, 6), (23, 6)] {
+        let register = page(&[entry(0, b"a/b1"), entry(prefix, b"2")], None);
+        assert_eq!(check(&register), Err(number), "prefix {prefix}");
+    }
+    let longer = page(&[entry(0, b"a/b1"), entry(4, b"2")], None);
+    assert_eq!(check(&longer), Ok(2));
+    // The second key shares a byte more.
+    let wrong = page(&[entry(0, b"a/b1"), entry(2, b"b2")], None);
+    assert_eq!(check(&wrong), Err(6));
+}
+
+#[test]
+fn number_7() {
+    assert_eq!(check(&page(&[entry(0, b"ab")], None)), Err(7));
+    assert_eq!(check(&page(&[entry(0, b"a/")], None)), Err(7));
+    assert_eq!(check(&page(&[entry(0, b"")], None)), Err(7));
+    for key in [&b"ab"[..], b"a/", b"", &[b'/'; 300]] {
+        assert_eq!(lookup(&EMPTY, key), Err(7));
+        assert_eq!(put(&EMPTY, key, &[1; 31], &mut [0; 100]), Err(7));
+        assert_eq!(join(&EMPTY, key, &[1; 31], &mut [0; 100]), Err(7));
+        assert_eq!(remove(&EMPTY, key, &mut []), Err(7));
+    }
+}
+
+#[test]
+fn number_7_by_length() {
+    // A key of 256 bytes is put, one of 257 is not.
+    let mut out = [0; 400];
+    let key = [&[b'a'; 100][..], b"/", &[b'b'; 155]].concat();
+    assert_eq!(key.len(), 256);
+    let length = put(&EMPTY, &key, &VALUE, &mut out).expect("the key is lawful");
+    // 2 bytes more for the length of the remainder than where it is less than 24.
+    assert_eq!(length, 64 + 252 + 2);
+    assert_eq!(check(&out[..length]), Ok(1));
+    let longer = [&key[..], b"b"].concat();
+    assert_eq!(put(&EMPTY, &longer, &VALUE, &mut out), Err(7));
+}
+
+#[test]
+fn number_8() {
+    let falling = page(&[entry(0, b"a/b2"), entry(3, b"1")], None);
+    assert_eq!(check(&falling), Err(8));
+    // The whole key as the prefix and no remainder: the same key again.
+    let again = page(&[entry(0, b"a/b2"), entry(4, b"")], None);
+    assert_eq!(check(&again), Err(8));
+    let shorter = page(&[entry(0, b"a/b12"), entry(4, b"")], None);
+    assert_eq!(check(&shorter), Err(8));
+    // A key in a page below against one in the page above.
+    let below = page(&[entry(0, b"a/b3")], None);
+    let root = page(&[entry(0, b"a/b2")], Some(sha256(&below)));
+    assert_eq!(check(&[root, below].concat()), Err(8));
+}
+
+#[test]
+fn number_9() {
+    let below = page(&[entry(0, b"a/b1")], None);
+    let root = page(&[], Some(sha256(&below)));
+    assert_eq!(check(&[root, below].concat()), Err(9));
+    // Two layers in one page.
+    let flat = page(&[entry(0, b"a/b1"), entry(3, b"2")], None);
+    assert_eq!(flat.len(), 118);
+    assert_eq!(check(&flat), Err(9));
+    // A link to a page without records.
+    let root = page(&[linked_entry(0, b"a/b2", Some(sha256(&EMPTY)))], None);
+    assert_eq!(check(&[&root[..], &EMPTY].concat()), Err(9));
+    let root = page(&[], Some(sha256(&EMPTY)));
+    assert_eq!(check(&[&root[..], &EMPTY].concat()), Err(9));
+}
+
+#[test]
+fn number_10() {
+    let register = two_pages();
+    assert_eq!(check(&register), Ok(2));
+    // The left link ends the root: 256 bits of its digest.
+    let root = page(&[entry(0, b"a/b2")], Some([0; 32])).len();
+    for bit in 0..256 {
+        let mut flipped = register.clone();
+        flipped[root - 32 + bit / 8] ^= 1 << (bit % 8);
+        assert_eq!(check(&flipped), Err(10), "bit {bit}");
+    }
+}
+
+#[test]
+fn number_11() {
+    for length in (0..100).filter(|length| *length != 32) {
+        let value = vec![0x11; length];
+        assert_eq!(put(&EMPTY, b"a/b1", &value, &mut []), Err(11));
+        assert_eq!(join(&EMPTY, b"a/b1", &value, &mut []), Err(11));
+    }
+}
+
+#[test]
+fn number_12() {
+    assert_eq!(lookup(&EMPTY, b"a/b1"), Err(12));
+    assert_eq!(remove(&EMPTY, b"a/b1", &mut []), Err(12));
+    let register = two_pages();
+    assert_eq!(lookup(&register, b"a/b3"), Err(12));
+    // The value of `a/b2` stands in the root, and the page of `a/b1` ends in its value, two
+    // bytes and null.
+    let place = lookup(&register, b"a/b1").expect("the key is present");
+    assert_eq!(place, register.len() - 3 - 32);
+    assert_eq!(lookup(&register, b"a/b2"), Ok(29));
+    assert_eq!(register[29..61], VALUE);
+}
+
+#[test]
+fn number_13() {
+    let mut out = [0xaa; 64];
+    assert_eq!(put(&EMPTY, b"a/b1", &VALUE, &mut out[..63]), Err(13));
+    assert!(out[..63].iter().all(|byte| *byte == 0));
+    assert_eq!(out[63], 0xaa);
+    assert_eq!(put(&EMPTY, b"a/b1", &VALUE, &mut out), Ok(64));
+    // Also where nothing changes.
+    let register = out;
+    assert_eq!(put(&register, b"a/b1", &VALUE, &mut [0; 63]), Err(13));
+    assert_eq!(join(&register, b"a/b1", &[0; 32], &mut [0; 63]), Err(13));
+    assert_eq!(merge(&register, &register, &mut [0; 63]), Err(13));
+    assert_eq!(remove(&register, b"a/b1", &mut [0; 6]), Err(13));
+    assert_eq!(difference(&register, &register, &mut [0; 6]), Err(13));
+
+    let mut value = [0xaa; 32];
+    assert_eq!(list(&register, 0, &mut [0; 3], &mut value), Err(13));
+    assert_eq!(value, [0; 32]);
+}
+
+/// From the root down, 129 pages may follow one another.
+#[test]
+fn depth() {
+    let mut pages = vec![page(&[entry(0, b"a/b1")], None)];
+    for depth in 2..=131 {
+        let root = page(&[], Some(sha256(&pages[0])));
+        pages.insert(0, root);
+        let register = pages.concat();
+        let expected = if depth <= 129 { Err(9) } else { Err(3) };
+        assert_eq!(check(&register), expected, "{depth} pages");
+
+        // The input ends with the link to the last page: 2, also where it would be too deep.
+        let last = pages[depth - 1].len();
+        let cut = &register[..register.len() - last];
+        let expected = if depth <= 130 { Err(2) } else { Err(3) };
+        assert_eq!(check(cut), expected, "{depth} pages, cut");
+    }
+}
+
+/// The first event in reading order decides between 2 and 3.
+#[test]
+fn counts_are_not_judged_ahead() {
+    // 65,535 entries are promised and none is there.
+    assert_eq!(check(b"\xa2\x61e\x99\xff\xff"), Err(2));
+    assert_eq!(check(b"\xa2\x61e\x99\xff\xff\xa4\x61k\x59\xff\xff"), Err(2));
+    assert_eq!(check(b"\xa2\x61e\x99\xff\xff\x61"), Err(3));
+    // The byte that rules the shortest form out departs.
+    assert_eq!(check(b"\xa2\x61e\x98"), Err(2));
+    assert_eq!(check(b"\xa2\x61e\x98\x17"), Err(3));
+    assert_eq!(check(b"\xa2\x61e\x98\x18"), Err(2));
+    assert_eq!(check(b"\xa2\x61e\x99"), Err(2));
+    assert_eq!(check(b"\xa2\x61e\x99\x00"), Err(3));
+    assert_eq!(check(b"\xa2\x61e\x99\x01"), Err(2));
+    assert_eq!(check(b"\xa2\x61e\x9a"), Err(3));
+    assert_eq!(check(b"\xa2\x61e\x9f"), Err(3));
+}
+
+/// Keys longer than 256 bytes are refused with 7, but only where all prefixes are right.
+#[test]
+fn long_keys_are_compared_whole() {
+    let long = |prefix: usize, remainder: &[u8]| {
+        let mut bytes = b"\xa4\x61k\x59".to_vec();
+        bytes.extend((remainder.len() as u16).to_be_bytes());
+        bytes.extend(remainder);
+        bytes.extend(b"\x61p\x19");
+        bytes.extend((prefix as u16).to_be_bytes());
+        bytes.extend(b"\x61t\xf6\x61v");
+        bytes.extend(link(Some(VALUE)));
+        bytes
+    };
+    let first = [b'a'; 300];
+    let first_entry = {
+        let mut bytes = b"\xa4\x61k\x59\x01\x2c".to_vec();
+        bytes.extend(first);
+        bytes.extend(b"\x61p\x00\x61t\xf6\x61v");
+        bytes.extend(link(Some(VALUE)));
+        bytes
+    };
+    let right = long(299, &[b'b'; 256]);
+    assert_eq!(check(&page(&[first_entry.clone(), right], None)), Err(7));
+    let wrong = long(299, &[b'a'; 256]);
+    assert_eq!(check(&page(&[first_entry.clone(), wrong], None)), Err(6));
+    let whole = long(300, &[b'a'; 256]);
+    assert_eq!(check(&page(&[first_entry.clone(), whole], None)), Err(7));
+    let beyond = long(301, &[b'a'; 256]);
+    assert_eq!(check(&page(&[first_entry, beyond], None)), Err(6));
+}
+
+/// The first register is judged through before the second, and both before the arguments.
+#[test]
+fn order_over_two_registers() {
+    let tenth = {
+        let mut register = two_pages();
+        let root = register.len() - 64;
+        register[root - 1] ^= 1;
+        register
+    };
+    assert_eq!(check(&tenth), Err(10));
+    assert_eq!(merge(&tenth, &[], &mut []), Err(10));
+    assert_eq!(merge(&[], &tenth, &mut []), Err(2));
+    assert_eq!(merge(&EMPTY, &tenth, &mut []), Err(10));
+    assert_eq!(difference(&tenth, &[], &mut []), Err(10));
+    assert_eq!(difference(&EMPTY, &tenth, &mut []), Err(10));
+    assert_eq!(put(&tenth, b"ab", b"", &mut []), Err(10));
+    assert_eq!(put(&EMPTY, b"ab", b"", &mut []), Err(7));
+    assert_eq!(put(&EMPTY, b"a/b1", b"", &mut []), Err(11));
+    assert_eq!(put(&EMPTY, b"a/b1", &VALUE, &mut []), Err(13));
+    assert_eq!(lookup(&tenth, b"ab"), Err(10));
+    assert_eq!(list(&tenth, 0, &mut [], &mut [0; 32]), Err(10));
+}

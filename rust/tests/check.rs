@@ -1,0 +1,327 @@
+//! `check` of accepted registers, and of inputs that are no register at all.
+
+mod common;
+
+use common::calls::{number_of, raw_check};
+use common::forge::{Page, EMPTY};
+use common::sets::{set, set_of_layers, sets_to, Kind, COUNTS, HIGH, KINDS};
+use common::Random;
+use independent::{layer, pages, sha256, table, tree_of, Set};
+use mijdegen::{check, digest, Refusal, LONGEST};
+use std::ptr::{self, NonNull};
+
+extern "C" {
+    fn mijdegen_check(reg: *const u8, reg_len: usize) -> u64;
+}
+
+/// The register of `a/b1` with a value of 32 bytes `11`, as the scope writes it.
+fn one_record() -> Vec<u8> {
+    let mut register = vec![
+        0xa2, 0x61, 0x65, 0x81, 0xa4, 0x61, 0x6b, 0x44, 0x61, 0x2f, 0x62, 0x31, 0x61, 0x70, 0x00,
+        0x61, 0x74, 0xf6, 0x61, 0x76, 0xd8, 0x2a, 0x58, 0x25, 0x00, 0x01, 0x71, 0x12, 0x20,
+    ];
+    register.extend([0x11; 32]);
+    register.extend([0x61, 0x6c, 0xf6]);
+    register
+}
+
+#[test]
+fn registers_of_the_scope() {
+    assert_eq!(check(&EMPTY), Ok(0));
+    assert_eq!(check(&one_record()), Ok(1));
+    assert_eq!(one_record().len(), 64);
+    // 2 registers.
+    for register in [EMPTY.to_vec(), one_record()] {
+        assert_eq!(number_of(&register), 0);
+    }
+}
+
+/// Every kind of keys with every count. The sets are what the tests of all calls are about, so
+/// their shapes are looked at here.
+#[test]
+fn all_kinds_and_counts() {
+    let mut cases = 0;
+    for (kind, set) in sets_to(4_096) {
+        let register = table(&set);
+        assert_eq!(check(&register), Ok(set.len()), "{kind:?}");
+        assert_eq!(number_of(&register), 0, "{kind:?}");
+        // Another writer of the same pages.
+        assert!(Page::of_set(&set).table() == register, "{kind:?}");
+        cases += 1;
+    }
+    assert_eq!(cases, KINDS.len() * COUNTS.len());
+    assert_eq!(cases, 56);
+}
+
+#[test]
+fn shapes_of_the_kinds() {
+    let one_page = set(Kind::OnePage, 4_096);
+    assert_eq!(pages(&one_page).len(), 1);
+
+    let alternating = set(Kind::Alternating, 4_096);
+    let tree = tree_of(&alternating);
+    assert_eq!(tree.entries.len(), 2_048);
+    assert_eq!(tree.pages(), 2_049);
+    assert!(tree.left.is_none());
+    assert!(tree.entries.iter().all(|(_, gap)| gap.is_some()));
+
+    // Two records with 15 pages without entries between them.
+    let chain = set(Kind::Chains, 2);
+    assert_eq!(pages(&chain).len(), 17);
+    for (key, wanted) in HIGH.iter().zip([16, 15, 15, 14, 14, 13, 13, 12, 12]) {
+        assert_eq!(layer(key.as_bytes()), wanted, "{key}");
+    }
+
+    let longest = set(Kind::Longest, 4_096);
+    assert!(longest.keys().all(|key| key.len() == 256));
+    let shared = set(Kind::SharedPrefix, 4_096);
+    let mut keys = shared.keys();
+    let first = keys.next().expect("there are records");
+    assert!(keys.all(|key| key[..200] == first[..200]));
+    // Ordinary keys of many layers: the root is high.
+    let ordinary = set(Kind::Ordinary, 4_096);
+    assert!(ordinary.keys().map(|key| layer(key)).max() >= Some(5));
+}
+
+/// The published trees, with the digest of their root by the library.
+#[test]
+fn published_trees() {
+    let value = [
+        0x9d, 0x15, 0x6b, 0xc3, 0xf3, 0xa5, 0x20, 0x06, 0x62, 0x52, 0xc7, 0x08, 0xa9, 0x36, 0x1f,
+        0xd3, 0xd0, 0x89, 0x22, 0x38, 0x42, 0x50, 0x0e, 0x37, 0x13, 0xd4, 0x04, 0xfd, 0xcc, 0xb3,
+        0x3c, 0xef,
+    ];
+    let trees: [(&[&str], &str); 3] = [
+        (
+            &[],
+            "9dfefe61dd76ea3dcae5023880b08379d57adf20482d6fdbe2759289f647677b",
+        ),
+        (
+            &["3jqfcqzm3fo2j"],
+            "29e2e42d820d8d5e77f6ec8b4ae746b1a72d86cfcbb20700b35ed6c1e982791d",
+        ),
+        (
+            &[
+                "3jqfcqzm3fp2j",
+                "3jqfcqzm3fr2j",
+                "3jqfcqzm3fs2j",
+                "3jqfcqzm3ft2j",
+                "3jqfcqzm4fc2j",
+            ],
+            "4c01f12871beb16977775a6786f463f9fc33866c7997fbe9f5bf6946610ad0fb",
+        ),
+    ];
+    for (names, root) in trees {
+        let set: Set = names
+            .iter()
+            .map(|name| (format!("com.example.record/{name}").into_bytes(), value))
+            .collect();
+        let pages = pages(&set);
+        let found = digest(&pages[0]).expect("a page is short");
+        assert_eq!(common::hexadecimal(&found), root);
+        assert_eq!(check(&pages.concat()), Ok(names.len()));
+    }
+}
+
+/// All rows of 1 to 5 layers from 0 to 2, and of 2 and 3 layers from 0 to 4.
+#[test]
+fn all_rows_of_few_layers() {
+    fn rows(length: usize, highest: u8) -> Vec<Vec<u8>> {
+        let mut rows = vec![vec![]];
+        for _ in 0..length {
+            let longer = rows.iter().flat_map(|row| {
+                (0..=highest).map(move |layer| [row.as_slice(), &[layer]].concat())
+            });
+            rows = longer.collect();
+        }
+        rows
+    }
+    let mut cases = 0;
+    for (length, highest) in [(1, 2), (2, 2), (3, 2), (4, 2), (5, 2), (2, 4), (3, 4)] {
+        for row in rows(length, highest) {
+            let set = set_of_layers(&row);
+            assert_eq!(number_of(&table(&set)), 0, "{row:?}");
+            cases += 1;
+        }
+    }
+    assert_eq!(cases, 3 + 9 + 27 + 81 + 243 + 25 + 125);
+}
+
+#[test]
+fn random_sets() {
+    let mut random = Random::new(11);
+    let sources: Vec<Vec<_>> = KINDS
+        .iter()
+        .map(|kind| set(*kind, 1_000).into_iter().collect())
+        .collect();
+    // 500 sets of 0 to 40 records, drawn from one or two kinds.
+    for _ in 0..500 {
+        let mut set = Set::new();
+        for _ in 0..2 {
+            let source = random.one_of(&sources);
+            for _ in 0..random.below(21) {
+                let (key, value) = random.one_of(source).clone();
+                set.insert(key, value);
+            }
+        }
+        let register = table(&set);
+        assert_eq!(check(&register), Ok(set.len()));
+        assert_eq!(number_of(&register), 0);
+    }
+}
+
+#[test]
+fn each_length_of_keys() {
+    // 254 keys, each alone, and all of them together.
+    let mut all = Set::new();
+    for length in 3..=256 {
+        let mut key = vec![b'k'; length];
+        key[1] = b'/';
+        let set = Set::from([(key.clone(), [length as u8; 32])]);
+        assert_eq!(number_of(&table(&set)), 0, "length {length}");
+        all.insert(key, [length as u8; 32]);
+    }
+    assert_eq!(check(&table(&all)), Ok(254));
+    assert_eq!(number_of(&table(&all)), 0);
+}
+
+/// The places of a count's one-byte and two-byte forms: 23, 24, 255 and 256 entries in a page.
+#[test]
+fn each_count_of_entries() {
+    let all: Vec<_> = set(Kind::OnePage, 300).into_iter().collect();
+    // 301 counts.
+    for count in 0..=300 {
+        let set: Set = all[..count].iter().cloned().collect();
+        let register = table(&set);
+        assert_eq!(pages(&set).len(), 1);
+        assert_eq!(check(&register), Ok(count));
+    }
+}
+
+#[test]
+fn every_value_is_taken() {
+    // 4 values of one byte each, and one that looks like a page.
+    let mut values = [[0x00; 32], [0xff; 32], [0xf6; 32], [0xa2; 32], [0; 32]];
+    values[4][..7].copy_from_slice(&EMPTY);
+    for value in values {
+        let set: Set = set_of_layers(&[0, 1, 0, 2])
+            .into_keys()
+            .map(|key| (key, value))
+            .collect();
+        assert_eq!(number_of(&table(&set)), 0, "{value:?}");
+    }
+}
+
+/// The register may lie at any address, and other bytes may stand around it.
+#[test]
+fn any_address() {
+    let register = table(&set(Kind::Ordinary, 10));
+    let mut cases = 0;
+    for offset in 0..16 {
+        // 3 bytes that stand around it; the last could be the start of a page.
+        for around in [0x00, 0xff, 0xa2] {
+            let mut buffer = vec![around; offset];
+            buffer.extend(&register);
+            buffer.extend([around; 16]);
+            let lent = &mut buffer[offset..offset + register.len()];
+            assert_eq!(check(lent), Ok(10), "offset {offset}");
+            assert_eq!(raw_check(lent), 256 * 10, "offset {offset}");
+            cases += 1;
+        }
+    }
+    assert_eq!(cases, 16 * 3);
+}
+
+#[test]
+fn lengths_around_the_longest() {
+    let zeros = vec![0; LONGEST + 64];
+    // 3 lengths at which the first byte departs from the form, and 3 that are too long.
+    for length in [LONGEST - 1, LONGEST, 1] {
+        assert_eq!(check(&zeros[..length]), Err(Refusal::Departs), "{length}");
+    }
+    for length in [LONGEST + 1, LONGEST + 2, LONGEST + 64] {
+        assert_eq!(check(&zeros[..length]), Err(Refusal::TooLong), "{length}");
+    }
+    assert_eq!(number_of(&zeros[..LONGEST + 1]), 1);
+    assert_eq!(number_of(&zeros[..LONGEST]), 3);
+}
+
+/// A length whose low 32 bits alone would be that of an accepted register. Most of the memory is
+/// never written, so the system only sets addresses aside.
+#[cfg(target_pointer_width = "64")]
+#[test]
+fn a_length_over_32_bits_is_refused() {
+    let mut register = vec![0; (1 << 32) + EMPTY.len()];
+    register[..EMPTY.len()].copy_from_slice(&EMPTY);
+    assert_eq!(check(&register), Err(Refusal::TooLong));
+}
+
+#[test]
+fn raw_call_does_not_read_an_empty_register() {
+    // 2 pointers that cannot be read.
+    for register in [ptr::null(), NonNull::<u8>::dangling().as_ptr().cast_const()] {
+        // SAFETY: At length 0 the register is not read.
+        let answer = unsafe { mijdegen_check(register, 0) };
+        assert_eq!(answer, 2);
+    }
+}
+
+#[test]
+fn random_bytes_are_refused() {
+    let mut random = Random::new(12);
+    let mut counts = [0; 14];
+    // 20,000 inputs of 0 to 99 bytes. Most of them depart at once, so half begin like a page.
+    for case in 0..20_000 {
+        let length = random.below(100);
+        let mut bytes = random.bytes(length);
+        let start = random.below(EMPTY.len());
+        if case % 2 == 0 && length >= start {
+            bytes[..start].copy_from_slice(&EMPTY[..start]);
+        }
+        counts[usize::from(number_of(&bytes))] += 1;
+    }
+    assert_eq!(counts.iter().sum::<u32>(), 20_000);
+    assert!(counts[2] > 100 && counts[3] > 10_000);
+}
+
+/// Pages that are as good as they can be, except that two sets' pages are mixed up.
+#[test]
+fn parts_of_other_registers() {
+    let mut cases = 0;
+    let sets = [
+        set_of_layers(&[0, 1, 0]),
+        set_of_layers(&[0, 2]),
+        set(Kind::Ordinary, 10),
+        set(Kind::Chains, 3),
+    ];
+    for one in &sets {
+        for other in &sets {
+            let (one, other) = (pages(one), pages(other));
+            for (n, page) in one.iter().enumerate() {
+                for replacement in &other {
+                    let mut mixed = one.clone();
+                    mixed[n] = replacement.clone();
+                    let number = number_of(&mixed.concat());
+                    assert_eq!(number == 0, mixed == one || mixed == other, "page {n}");
+                    assert!(page != replacement || number == 0);
+                    cases += 1;
+                }
+            }
+        }
+    }
+    // The sum of pages, squared.
+    let pages: usize = sets.iter().map(|set| pages(set).len()).sum();
+    assert_eq!(cases, pages * pages);
+}
+
+/// The digest of each page stands in the link to it, so each page but the root can be found.
+#[test]
+fn links_hold_the_digests() {
+    let pages = pages(&set(Kind::Ordinary, 100));
+    let all = pages.concat();
+    for page in &pages[1..] {
+        let digest = sha256(page);
+        assert!(all.windows(32).any(|part| part == digest));
+        assert_eq!(mijdegen::digest(page), Ok(digest));
+    }
+}

@@ -1,0 +1,246 @@
+//! The C functions with a watch on their buffers, and the comparison of the three reading calls
+//! with the crate `independent`.
+
+use super::hexadecimal;
+use independent::sha256;
+use mijdegen::{check, list, lookup, lookup_place, Listed, Refusal};
+
+extern "C" {
+    fn mijdegen_check(reg: *const u8, reg_len: usize) -> u64;
+    fn mijdegen_lookup(reg: *const u8, reg_len: usize, key: *const u8, key_len: usize) -> u64;
+    // The value is declared as a pointer to bytes, since here it lies within a longer buffer.
+    fn mijdegen_list(
+        reg: *const u8,
+        reg_len: usize,
+        n: u64,
+        out: *mut u8,
+        out_len: usize,
+        value: *mut u8,
+    ) -> u64;
+}
+
+/// Gives the answer of the C interface: a value times 256, or the number of a refusal.
+pub fn answer(result: Result<usize, u8>) -> u64 {
+    match result {
+        Ok(value) => 256 * value as u64,
+        Err(number) => u64::from(number),
+    }
+}
+
+/// Calls the C function and checks that the register stays as it was. Gives the answer.
+pub fn raw_check(register: &mut [u8]) -> u64 {
+    let before = register.to_vec();
+    // The pointer comes from a mutable reference, so that a write would be seen below.
+    // SAFETY: The pointer and the length are of one slice.
+    let answer = unsafe { mijdegen_check(register.as_mut_ptr().cast_const(), register.len()) };
+    assert!(register == before, "the register was changed");
+    answer
+}
+
+/// Calls the C function and checks that the inputs stay as they were. Gives the answer.
+pub fn raw_lookup(register: &mut [u8], key: &mut [u8]) -> u64 {
+    let before = (register.to_vec(), key.to_vec());
+    // The pointers come from mutable references, so that a write would be seen below.
+    // SAFETY: Each pointer and its length are of one slice.
+    let answer = unsafe {
+        mijdegen_lookup(
+            register.as_mut_ptr().cast_const(),
+            register.len(),
+            key.as_mut_ptr().cast_const(),
+            key.len(),
+        )
+    };
+    assert!(register == before.0, "the register was changed");
+    assert!(key == before.1, "the key was changed");
+    answer
+}
+
+/// Calls the C function with an output of this length and one for the value, both of bytes 0xAA
+/// inside longer buffers. Checks that the bytes around the outputs and the register stay as they
+/// were. Gives the answer, the output and the value.
+pub fn raw_list(register: &mut [u8], n: u64, out_length: usize) -> (u64, Vec<u8>, [u8; 32]) {
+    let mut out = Surrounded::new(out_length);
+    let mut value = Surrounded::new(32);
+    let before = register.to_vec();
+    // The pointer to the register comes from a mutable reference, so that a write to it would be
+    // seen below.
+    // SAFETY: Each pointer has as many bytes as the library is told, and the buffers are not
+    // the register's.
+    let answer = unsafe {
+        mijdegen_list(
+            register.as_mut_ptr().cast_const(),
+            register.len(),
+            n,
+            out.start(),
+            out_length,
+            value.start(),
+        )
+    };
+    assert!(register == before, "the register was changed");
+    let value = value.contents("the value").try_into().expect("32 bytes");
+    (answer, out.contents("the output"), value)
+}
+
+/// Bytes 0xAA, with other bytes before and after them.
+struct Surrounded {
+    buffer: Vec<u8>,
+    before: Vec<u8>,
+    start: usize,
+    end: usize,
+}
+
+impl Surrounded {
+    fn new(length: usize) -> Surrounded {
+        const AROUND: usize = 64;
+        // The length also decides how the start is aligned.
+        let start = AROUND + length % 16;
+        let end = start + length;
+        let mut buffer: Vec<u8> = (0..end + AROUND).map(|place| place as u8 ^ 0x5c).collect();
+        buffer[start..end].fill(0xaa);
+        Surrounded {
+            before: buffer.clone(),
+            buffer,
+            start,
+            end,
+        }
+    }
+
+    /// Gives a pointer to the first of the bytes.
+    fn start(&mut self) -> *mut u8 {
+        self.buffer[self.start..].as_mut_ptr()
+    }
+
+    /// Gives the bytes, after a check that those around them stayed as they were.
+    fn contents(self, name: &str) -> Vec<u8> {
+        let (start, end) = (self.start, self.end);
+        assert!(
+            self.buffer[..start] == self.before[..start],
+            "bytes before {name} were changed"
+        );
+        assert!(
+            self.buffer[end..] == self.before[end..],
+            "bytes after {name} were changed"
+        );
+        self.buffer[start..end].to_vec()
+    }
+}
+
+/// Compares check, lookup and list with the independent crate, by the safe and by the C
+/// functions. Gives the number that is due on the register, or 0 where it is accepted.
+pub fn number_of(register: &[u8]) -> u8 {
+    let expected = independent::check(register);
+    let found = check(register).map_err(Refusal::number);
+    assert_eq!(found, expected, "check of {}", shown(register));
+    let found = raw_check(&mut register.to_vec());
+    assert_eq!(found, answer(expected), "C check of {}", shown(register));
+
+    match expected {
+        Err(number) => {
+            compare_refused(register, number);
+            number
+        }
+        Ok(count) => {
+            compare_accepted(register, count);
+            0
+        }
+    }
+}
+
+/// All calls refuse the register with the number, whatever else they are given, and the outputs
+/// are zero.
+fn compare_refused(register: &[u8], number: u8) {
+    let refusal = Refusal::from_number(number).expect("a number from 1 to 13");
+    assert_eq!(lookup(register, b"a/b1"), Err(refusal), "a lawful key");
+    assert_eq!(lookup(register, b"ab"), Err(refusal), "an unlawful key");
+    let mut out = [0xaa; 5];
+    assert_eq!(list(register, 0, &mut out), Err(refusal));
+    assert_eq!(out, [0; 5]);
+
+    let mut lent = register.to_vec();
+    let found = raw_lookup(&mut lent, &mut b"a/b1".to_vec());
+    assert_eq!(found, u64::from(number));
+    for (n, length) in [(0, 0), (5_000, 300)] {
+        let zeros = (u64::from(number), vec![0; length], [0; 32]);
+        assert_eq!(raw_list(&mut lent, n, length), zeros, "record {n}");
+    }
+}
+
+/// The first, the middle and the last record are found and listed, and the register is the one
+/// of its set.
+fn compare_accepted(register: &[u8], count: usize) {
+    let set = independent::set_of(register).expect("the register is accepted");
+    assert_eq!(set.len(), count);
+    assert!(independent::table(&set) == register, "{}", shown(register));
+
+    let mut lent = register.to_vec();
+    let records: Vec<_> = set.iter().collect();
+    for n in [0, count / 2, count.saturating_sub(1)] {
+        let Some((key, value)) = records.get(n) else {
+            continue;
+        };
+        compare_lookup(register, key).expect("the key is present");
+        assert_eq!(lookup(register, key), Ok(*value));
+        let listed = raw_list(&mut lent, n as u64, key.len());
+        assert_eq!(listed, (256 * key.len() as u64, key.to_vec(), **value));
+    }
+    assert_eq!(
+        raw_list(&mut lent, count as u64, 4),
+        (0, vec![0; 4], [0; 32])
+    );
+    let found = compare_lookup(register, b"a/b1");
+    assert_eq!(found.is_ok(), set.contains_key(&b"a/b1"[..]));
+    assert_eq!(compare_lookup(register, b"ab"), Err(7));
+}
+
+/// Compares lookup with the independent crate, by the safe and by the C functions. Gives the
+/// place of the value.
+pub fn compare_lookup(register: &[u8], key: &[u8]) -> Result<usize, u8> {
+    let expected = independent::lookup(register, key);
+    let place = lookup_place(register, key).map_err(Refusal::number);
+    assert_eq!(place, expected, "lookup of {key:?}");
+    let found = raw_lookup(&mut register.to_vec(), &mut key.to_vec());
+    assert_eq!(found, answer(expected), "C lookup of {key:?}");
+
+    let value = lookup(register, key).map_err(Refusal::number);
+    match expected {
+        Ok(place) => {
+            let value = value.expect("the key is present");
+            assert_eq!(value[..], register[place..place + 32]);
+            // It is a part of the lent register and no copy.
+            assert_eq!(value.as_ptr(), register[place..].as_ptr());
+        }
+        Err(number) => assert_eq!(value, Err(number)),
+    }
+    expected
+}
+
+/// Compares list with the independent crate for an output of this length, by the safe and by the
+/// C functions. Gives the key's length, or 0 past the end.
+pub fn compare_list(register: &[u8], n: u64, length: usize) -> Result<usize, u8> {
+    let (mut out, mut value) = (vec![0x55; length], [0x55; 32]);
+    let expected = independent::list(register, n, &mut out, &mut value);
+    let found = raw_list(&mut register.to_vec(), n, length);
+    assert_eq!(found.0, answer(expected), "record {n}, output {length}");
+    assert!(found.1 == out, "record {n}, output {length}");
+    assert_eq!(found.2, value, "record {n}, output {length}");
+
+    let mut safe_out = vec![0xaa; length];
+    let n = usize::try_from(n).expect("64 bits");
+    let found = list(register, n, &mut safe_out).map_err(Refusal::number);
+    let listed = expected.map(|key_length| match key_length {
+        0 => None,
+        _ => Some(Listed { key_length, value }),
+    });
+    assert_eq!(found, listed, "record {n}, output {length}");
+    assert!(safe_out == out, "record {n}, output {length}");
+    expected
+}
+
+/// Writes a register for a message: a short one whole, of a long one the length and the digest.
+pub fn shown(register: &[u8]) -> String {
+    if register.len() <= 1_000 {
+        return hexadecimal(register);
+    }
+    let digest = hexadecimal(&sha256(register));
+    format!("{} bytes with digest {digest}", register.len())
+}

@@ -1,0 +1,286 @@
+//! Page tables of any content, lawful or not.
+//!
+//! The bytes are written here another way than in the crate `independent`, and the tests compare
+//! the two on lawful sets.
+
+use independent::{sha256, tree, tree_of, Set, LONGEST};
+
+/// The nine bytes with which each link begins.
+pub const LINK: &[u8; 9] = b"\xd8\x2a\x58\x25\x00\x01\x71\x12\x20";
+
+/// The empty register.
+pub const EMPTY: [u8; 7] = [0xa2, 0x61, 0x65, 0x80, 0x61, 0x6c, 0xf6];
+
+/// A page, with the pages below it.
+#[derive(Clone, Default)]
+pub struct Page {
+    pub left: Option<Link>,
+    pub entries: Vec<Entry>,
+}
+
+/// An entry of a page.
+#[derive(Clone)]
+pub struct Entry {
+    pub prefix: usize,
+    pub remainder: Vec<u8>,
+    pub after: Option<Link>,
+    pub value: [u8; 32],
+}
+
+/// A link to a page.
+#[derive(Clone)]
+pub struct Link {
+    pub page: Box<Page>,
+    /// What is changed in the page's digest before it is written into the link.
+    pub flip: [u8; 32],
+}
+
+/// Links to the page with its digest.
+pub fn link_to(page: Page) -> Option<Link> {
+    Some(Link {
+        page: Box::new(page),
+        flip: [0; 32],
+    })
+}
+
+impl Page {
+    /// Gives a page of these keys with right prefixes and without links. The keys may be in any
+    /// order and break the key rule.
+    pub fn of_keys(keys: &[&[u8]]) -> Page {
+        let mut page = Page::default();
+        for key in keys {
+            page.entries.push(Entry::new(key));
+        }
+        page.spell(&keys.iter().map(|key| key.to_vec()).collect::<Vec<_>>());
+        page
+    }
+
+    /// Gives a page without entries and with a left link.
+    pub fn above(page: Page) -> Page {
+        Page {
+            left: link_to(page),
+            entries: Vec::new(),
+        }
+    }
+
+    /// Gives the pages of the set.
+    pub fn of_set(set: &Set) -> Page {
+        fn convert(page: &tree::Page<(&[u8], &[u8; 32])>) -> Page {
+            let gap = |gap: &tree::Gap<(&[u8], &[u8; 32])>| {
+                let page = gap.as_ref()?;
+                link_to(convert(page))
+            };
+            let mut made = Page::default();
+            let mut keys = Vec::new();
+            made.left = gap(&page.left);
+            for ((key, value), after) in &page.entries {
+                keys.push(key.to_vec());
+                made.entries.push(Entry {
+                    after: gap(after),
+                    value: **value,
+                    ..Entry::new(key)
+                });
+            }
+            made.spell(&keys);
+            made
+        }
+        convert(&tree_of(set))
+    }
+
+    /// Gives the keys of the page alone. A prefix longer than the key before takes all of it.
+    pub fn keys(&self) -> Vec<Vec<u8>> {
+        let mut keys: Vec<Vec<u8>> = Vec::new();
+        for entry in &self.entries {
+            let mut key = keys.last().cloned().unwrap_or_default();
+            key.truncate(entry.prefix);
+            key.extend(&entry.remainder);
+            keys.push(key);
+        }
+        keys
+    }
+
+    /// Gives the entries these keys, with right prefixes.
+    pub fn spell(&mut self, keys: &[Vec<u8>]) {
+        assert_eq!(keys.len(), self.entries.len());
+        let mut before: &[u8] = b"";
+        for (entry, key) in self.entries.iter_mut().zip(keys) {
+            let mut prefix = 0;
+            while prefix < before.len() && prefix < key.len() && before[prefix] == key[prefix] {
+                prefix += 1;
+            }
+            // A longer prefix has no form.
+            entry.prefix = prefix.min(65_535);
+            entry.remainder = key[entry.prefix..].to_vec();
+            before = key;
+        }
+    }
+
+    /// Changes the key of one entry. All prefixes of the page are right afterwards.
+    pub fn change_key(&mut self, place: usize, change: impl FnOnce(&mut Vec<u8>)) {
+        let mut keys = self.keys();
+        change(&mut keys[place]);
+        self.spell(&keys);
+    }
+
+    /// Counts the page and all pages below it.
+    pub fn pages(&self) -> usize {
+        let after = self.entries.iter().map(|entry| &entry.after);
+        let links = after.chain([&self.left]).flatten();
+        1 + links.map(|link| link.page.pages()).sum::<usize>()
+    }
+
+    /// Gives the n-th page in table order, the page itself being number 0.
+    pub fn page_mut(&mut self, n: usize) -> &mut Page {
+        fn visit<'p>(page: &'p mut Page, n: &mut usize) -> Option<&'p mut Page> {
+            if *n == 0 {
+                return Some(page);
+            }
+            *n -= 1;
+            let after = page.entries.iter_mut().map(|entry| &mut entry.after);
+            let links = [&mut page.left].into_iter().chain(after).flatten();
+            links
+                .map(|link| link.page.as_mut())
+                .find_map(|page| visit(page, n))
+        }
+        let mut left = n;
+        visit(self, &mut left).expect("there are more pages than n")
+    }
+
+    /// Gives the links of the page alone: the left one, then the one after each entry.
+    pub fn links_mut(&mut self) -> Vec<&mut Option<Link>> {
+        let after = self.entries.iter_mut().map(|entry| &mut entry.after);
+        [&mut self.left].into_iter().chain(after).collect()
+    }
+
+    /// Gives the page table.
+    pub fn table(&self) -> Vec<u8> {
+        self.table_and_digest().0
+    }
+
+    fn table_and_digest(&self) -> (Vec<u8>, [u8; 32]) {
+        let mut below = Vec::new();
+        let mut gap = |link: &Option<Link>| match link {
+            Some(link) => {
+                let (table, mut digest) = link.page.table_and_digest();
+                below.extend(table);
+                for (byte, flip) in digest.iter_mut().zip(link.flip) {
+                    *byte ^= flip;
+                }
+                link_bytes(&digest)
+            }
+            None => vec![0xf6],
+        };
+        let left = gap(&self.left);
+        let mut entries = Vec::new();
+        for entry in &self.entries {
+            let after = gap(&entry.after);
+            entries.extend(entry_bytes(
+                &head(0x40, entry.remainder.len()),
+                &entry.remainder,
+                &head(0x00, entry.prefix),
+                &after,
+                &entry.value,
+            ));
+        }
+        let mut bytes = page_bytes(&head(0x80, self.entries.len()), &entries, &left);
+        let digest = sha256(&bytes);
+        bytes.extend(below);
+        (bytes, digest)
+    }
+}
+
+impl Entry {
+    /// Gives an entry with the key as its remainder and without a link.
+    pub fn new(key: &[u8]) -> Entry {
+        Entry {
+            prefix: 0,
+            remainder: key.to_vec(),
+            after: None,
+            value: [0x11; 32],
+        }
+    }
+}
+
+/// Writes a number in its shortest form: 0x00 for a plain number, 0x40 for the length of a byte
+/// string, 0x80 for the count of an array.
+pub fn head(kind: u8, number: usize) -> Vec<u8> {
+    if number > 0xff {
+        assert!(number <= 0xffff);
+        vec![kind + 25, (number >> 8) as u8, number as u8]
+    } else if number > 23 {
+        vec![kind + 24, number as u8]
+    } else {
+        vec![kind + number as u8]
+    }
+}
+
+/// Writes a link.
+pub fn link_bytes(digest: &[u8; 32]) -> Vec<u8> {
+    [&LINK[..], digest].concat()
+}
+
+/// Writes an entry. The numbers and the link of the gap after it are given as bytes.
+pub fn entry_bytes(
+    length: &[u8],
+    remainder: &[u8],
+    prefix: &[u8],
+    after: &[u8],
+    value: &[u8; 32],
+) -> Vec<u8> {
+    [
+        b"\xa4\x61k",
+        length,
+        remainder,
+        b"\x61p",
+        prefix,
+        b"\x61t",
+        after,
+        b"\x61v",
+        LINK,
+        value,
+    ]
+    .concat()
+}
+
+/// Writes a page. The count of its entries, the entries and the left link are given as bytes.
+pub fn page_bytes(count: &[u8], entries: &[u8], left: &[u8]) -> Vec<u8> {
+    [b"\xa2\x61e", count, entries, b"\x61l", left].concat()
+}
+
+/// One key of layer 0 below pages without entries, so many pages in all.
+pub fn left_chain(pages: usize) -> Page {
+    (1..pages).fold(Page::of_keys(&[b"a/b1"]), |page, _| Page::above(page))
+}
+
+/// Pages of some entries, each linked after the last entry of the page above. The keys are lawful
+/// and rise.
+pub fn right_chain(pages: usize, entries: usize) -> Page {
+    let mut below = None;
+    for number in (0..pages).rev() {
+        let keys: Vec<_> = (0..entries)
+            .map(|entry| format!("chain/{number:03}.{entry:03}").into_bytes())
+            .collect();
+        let mut page = Page::of_keys(&keys.iter().map(Vec::as_slice).collect::<Vec<_>>());
+        let last = page.entries.last_mut().expect("there are entries");
+        last.after = below.and_then(link_to);
+        below = Some(page);
+    }
+    below.expect("there are pages")
+}
+
+/// A page with so many keys, all too long to be lawful, and a left link to an empty page: a table
+/// of the greatest length. The prefixes are 0, though the keys share bytes.
+pub fn longest_page(entries: usize) -> Page {
+    // An entry has 55 bytes besides its remainder.
+    let length = (LONGEST - 200) / entries - 55;
+    let mut page = Page::above(Page::default());
+    for number in 0..entries {
+        let mut key = vec![b'k'; length];
+        key[..4].copy_from_slice(format!("{number:04}").as_bytes());
+        page.entries.push(Entry::new(&key));
+    }
+    let rest = LONGEST - page.table().len();
+    let last = page.entries.last_mut().expect("there are entries");
+    last.remainder.resize(length + rest, b'k');
+    page
+}

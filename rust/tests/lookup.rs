@@ -1,0 +1,297 @@
+//! `lookup` and `lookup_place` against the independent crate and against the sets themselves.
+
+mod common;
+
+use common::calls::{compare_lookup, raw_lookup};
+use common::forge::{Page, EMPTY};
+use common::sets::{set, sets_to, Kind, KINDS};
+use common::Random;
+use independent::{lawful, table, Set};
+use mijdegen::{lookup, lookup_place, Refusal, LONGEST};
+use std::ptr;
+
+extern "C" {
+    fn mijdegen_lookup(reg: *const u8, reg_len: usize, key: *const u8, key_len: usize) -> u64;
+}
+
+/// Keys that break the rule.
+fn unlawful_keys() -> Vec<Vec<u8>> {
+    let mut keys: Vec<Vec<u8>> = [
+        &b""[..],
+        b"/",
+        b"a",
+        b"ab",
+        b"a/",
+        b"/a",
+        b"//",
+        b"abc",
+        b"ab/",
+        b"/ab",
+        b"a//b",
+        b"a/b/c",
+        b"a/b1/",
+        b"a/b\0",
+        b"a/b\xc3\xa9",
+        b"a b/c",
+        b"a/b1\n",
+    ]
+    .iter()
+    .map(|key| key.to_vec())
+    .collect();
+    // A key of 256 bytes is the longest.
+    for length in [257, 258, 512, 65_536, LONGEST, LONGEST + 1] {
+        let mut key = vec![b'a'; length];
+        key[1] = b'/';
+        keys.push(key);
+    }
+    keys
+}
+
+/// What lookup gives by the set: 7 for an unlawful key, 12 for an absent one, else the value.
+fn by_set<'a>(set: &'a Set, key: &[u8]) -> Result<&'a [u8; 32], Refusal> {
+    if !lawful(key) {
+        return Err(Refusal::UnlawfulKey);
+    }
+    set.get(key).ok_or(Refusal::KeyAbsent)
+}
+
+#[test]
+fn each_present_key() {
+    let mut cases = 0;
+    for (kind, set) in sets_to(100) {
+        let register = table(&set);
+        for (key, value) in &set {
+            let place = compare_lookup(&register, key).expect("the key is present");
+            assert_eq!(lookup(&register, key), Ok(value), "{kind:?}");
+            assert_eq!(register[place..place + 32], *value, "{kind:?}");
+            // The nine bytes of the link stand before the value.
+            assert_eq!(register[place - 9..place], *common::forge::LINK);
+            cases += 1;
+        }
+    }
+    assert_eq!(cases, KINDS.len() * (1 + 2 + 3 + 10 + 100));
+}
+
+#[test]
+fn present_keys_of_large_registers() {
+    let mut cases = 0;
+    for kind in KINDS {
+        for (count, step) in [(1_000, 27), (4_096, 315)] {
+            let set = set(kind, count);
+            let register = table(&set);
+            // Keys all over the register, with the first and the last.
+            let records: Vec<_> = set.iter().collect();
+            for (key, value) in records.iter().step_by(step) {
+                assert_eq!(lookup(&register, key), Ok(*value), "{kind:?}");
+                cases += 1;
+            }
+            // The place of the last, which stands on a step.
+            let (key, value) = records[count - 1];
+            let place = lookup_place(&register, key).expect("the key is present");
+            assert_eq!(register[place..place + 32], *value, "{kind:?}");
+            compare_lookup(&register, key).expect("the key is present");
+        }
+    }
+    assert_eq!(cases, KINDS.len() * (38 + 14));
+}
+
+/// Keys that differ little from present ones: shorter, longer, and with another byte.
+#[test]
+fn keys_near_present_ones() {
+    let mut random = Random::new(21);
+    let (mut cases, mut present, mut absent, mut unlawful) = (0, 0, 0, 0);
+    for (kind, set) in sets_to(10) {
+        let register = table(&set);
+        for key in set.keys() {
+            let mut near = Vec::new();
+            near.push(key[..key.len() - 1].to_vec());
+            near.push(key[1..].to_vec());
+            near.push(key[..key.len() / 2].to_vec());
+            for more in [&b"-"[..], b"~", b"0", b"/", b"\0"] {
+                near.push([key, more].concat());
+            }
+            for place in [0, key.len() / 2, key.len() - 1] {
+                for change in [1, 0xff, 0x20, random.below(256) as u8] {
+                    let mut changed = key.clone();
+                    changed[place] = changed[place].wrapping_add(change);
+                    near.push(changed);
+                }
+            }
+            for key in near {
+                let expected = by_set(&set, &key);
+                assert_eq!(lookup(&register, &key), expected, "{kind:?} {key:?}");
+                let found = compare_lookup(&register, &key);
+                match found {
+                    Ok(_) => present += 1,
+                    Err(12) => absent += 1,
+                    Err(7) => unlawful += 1,
+                    Err(number) => panic!("number {number}"),
+                }
+                cases += 1;
+            }
+        }
+    }
+    assert_eq!(cases, KINDS.len() * (1 + 2 + 3 + 10) * 20);
+    assert_eq!(cases, present + absent + unlawful);
+    assert!(absent > 500 && unlawful > 500);
+}
+
+#[test]
+fn keys_before_the_first_and_after_the_last() {
+    let mut cases = 0;
+    for (kind, set) in sets_to(1_000) {
+        let register = table(&set);
+        for key in [&b"-/-"[..], b"-/--", b"~/~", b"~/~~~"] {
+            assert!(!set.contains_key(key));
+            let found = lookup(&register, key);
+            assert_eq!(found, Err(Refusal::KeyAbsent), "{kind:?} {key:?}");
+            assert_eq!(compare_lookup(&register, key), Err(12));
+            cases += 1;
+        }
+    }
+    assert_eq!(cases, KINDS.len() * 7 * 4);
+}
+
+#[test]
+fn unlawful_keys_are_refused() {
+    let mut cases = 0;
+    for (kind, set) in sets_to(10) {
+        let register = table(&set);
+        for key in unlawful_keys() {
+            let found = lookup(&register, &key);
+            assert_eq!(found, Err(Refusal::UnlawfulKey), "{kind:?}");
+            assert_eq!(raw_lookup(&mut register.clone(), &mut key.clone()), 7);
+            cases += 1;
+        }
+    }
+    assert_eq!(cases, KINDS.len() * 5 * 23);
+    for key in unlawful_keys() {
+        assert_eq!(compare_lookup(&EMPTY, &key), Err(7));
+    }
+}
+
+/// Each byte beside the slash, in keys that are absent: 12 where it is lawful, else 7.
+#[test]
+fn each_byte_of_a_key() {
+    let register = table(&set(Kind::Ordinary, 3));
+    let mut lawful_bytes = 0;
+    for byte in 0..=255_u8 {
+        let expected = if byte.is_ascii_alphanumeric() || b".-_:~".contains(&byte) {
+            lawful_bytes += 1;
+            12
+        } else {
+            7
+        };
+        // 4 places beside the slash.
+        for key in [
+            [byte, b'/', b'b', b'c'],
+            [b'a', byte, b'/', b'b'],
+            [b'a', b'/', byte, b'b'],
+            [b'a', b'/', b'b', byte],
+        ] {
+            assert_eq!(compare_lookup(&register, &key), Err(expected), "{key:?}");
+        }
+    }
+    assert_eq!(lawful_bytes, 67);
+}
+
+/// The register is judged before the key.
+#[test]
+fn refused_registers() {
+    let ordinary = table(&set(Kind::Ordinary, 10));
+    let cut = &ordinary[..ordinary.len() - 1];
+    let mut followed = ordinary.clone();
+    followed.push(0);
+    let too_long = vec![0; LONGEST + 1];
+    let mut cases = 0;
+    for (register, number) in [(cut, 2), (&followed, 4), (&too_long, 1), (&[], 2)] {
+        let mut keys = unlawful_keys();
+        keys.push(b"a/b1".to_vec());
+        keys.extend(set(Kind::Ordinary, 10).into_keys());
+        for key in keys {
+            assert_eq!(compare_lookup(register, &key), Err(number), "{key:?}");
+            cases += 1;
+        }
+    }
+    assert_eq!(cases, 4 * (23 + 1 + 10));
+}
+
+/// Lengths whose low 32 bits alone would be those of an accepted register and of a present key.
+/// Most of the memory is never written, so the system only sets addresses aside.
+#[cfg(target_pointer_width = "64")]
+#[test]
+fn lengths_over_32_bits() {
+    let register = Page::of_keys(&[b"a/b1"]).table();
+    let mut key = vec![0; (1 << 32) + 4];
+    key[..4].copy_from_slice(b"a/b1");
+    assert_eq!(lookup(&register, &key), Err(Refusal::UnlawfulKey));
+    assert_eq!(lookup(&register, &key[..4]), Ok(&[0x11; 32]));
+    drop(key);
+
+    let mut long = vec![0; (1 << 32) + register.len()];
+    long[..register.len()].copy_from_slice(&register);
+    assert_eq!(lookup(&long, b"a/b1"), Err(Refusal::TooLong));
+}
+
+/// The key may be a part of the register, since both are only read.
+#[test]
+fn the_key_may_lie_in_the_register() {
+    let set = Set::from([(b"a/b1".to_vec(), [0x11; 32])]);
+    let register = table(&set);
+    assert_eq!(lookup(&register, &register[8..12]), Ok(&[0x11; 32]));
+    assert_eq!(lookup(&register, &register[8..11]), Err(Refusal::KeyAbsent));
+    assert_eq!(lookup(&register, &register), Err(Refusal::UnlawfulKey));
+}
+
+/// Of several values that are the same, the place is the one of the key.
+#[test]
+fn equal_values() {
+    let mut set = set(Kind::Ordinary, 100);
+    set.values_mut().for_each(|value| *value = [0x22; 32]);
+    let register = table(&set);
+    let mut places: Vec<usize> = set
+        .keys()
+        .map(|key| compare_lookup(&register, key).expect("the key is present"))
+        .collect();
+    places.sort();
+    places.dedup();
+    assert_eq!(places.len(), 100);
+}
+
+/// A value that is written like a page or an entry is passed over.
+#[test]
+fn values_that_look_like_keys() {
+    let mut set = Set::new();
+    for (number, bytes) in [
+        &b"\xa4\x61k\x44a/b5\x61p\x00"[..],
+        &EMPTY,
+        b"\x61v\xd8\x2a\x58",
+    ]
+    .iter()
+    .enumerate()
+    {
+        let mut value = [0; 32];
+        value[..bytes.len()].copy_from_slice(bytes);
+        set.insert(format!("a/b{number}").into_bytes(), value);
+    }
+    let register = table(&set);
+    for (key, value) in &set {
+        assert_eq!(lookup(&register, key), Ok(value));
+        compare_lookup(&register, key).expect("the key is present");
+    }
+    assert_eq!(compare_lookup(&register, b"a/b5"), Err(12));
+}
+
+#[test]
+fn raw_call_does_not_read_empty_inputs() {
+    let mut register = EMPTY;
+    // SAFETY: An input of length 0 is not read, and the other is a slice.
+    unsafe {
+        assert_eq!(mijdegen_lookup(ptr::null(), 0, ptr::null(), 0), 2);
+        let lent = register.as_mut_ptr().cast_const();
+        assert_eq!(mijdegen_lookup(lent, register.len(), ptr::null(), 0), 7);
+        let key = b"a/b1";
+        assert_eq!(mijdegen_lookup(ptr::null(), 0, key.as_ptr(), 4), 2);
+        assert_eq!(mijdegen_lookup(lent, register.len(), key.as_ptr(), 4), 12);
+    }
+}
