@@ -1,0 +1,60 @@
+-- The text for a verdict.
+use Prim.Native.Nat.{ℕ, _≤_, _<_}
+use mathlib.Core.Path.{_≡_, sym, ap, subst, _∙_}
+use mathlib.Core.List.{List, [], _∷_, _++_}
+use lib.ListN.{length}
+use borrow.Author.Tests.{le-leb, lt-leb}
+use Rattle.answer.specs.Answer.{numberOf}
+use Rattle.answer.specs.declared.Refusal.{Refusal}
+use Rattle.tree.specs.Record.{records}
+use Rattle.tree.specs.Judge.{refused, judge}
+use Rattle.index.specs.Walk.{AcceptedIndex}
+use Rattle.register.specs.Listing.{decimal, space, lineFeed, recordLines, listingOf, refusalLine, listingVerdict, listing}
+use Rattle.listing.specs.Text.{Wrote, Adds, LinesSay}
+use Rattle.listing.specs.declared.text.Written.{Written}
+use Rattle.listing.specs.declared.text.Written.the-variants.{Text, NoRoom}
+use Rattle.listing.proofs.Adding.{adds-then, adds-short, adds-first, then-lines}
+
+-- ---- the first lines
+abbrev firstLine : List ℕ → ℕ → List ℕ
+firstLine word n = word ++ (decimal n ++ (lineFeed ∷ []))
+
+abbrev refusedWord : List ℕ
+refusedWord = 0x72 ∷ 0x65 ∷ 0x66 ∷ 0x75 ∷ 0x73 ∷ 0x65 ∷ 0x64 ∷ space ∷ []
+
+abbrev recordsWord : List ℕ
+recordsWord = 0x72 ∷ 0x65 ∷ 0x63 ∷ 0x6F ∷ 0x72 ∷ 0x64 ∷ 0x73 ∷ space ∷ []
+
+-- ---- refused
+too-long-text : (s : List ℕ) → 65536 < length s → listing s ≡ firstLine refusedWord 1
+unfolding listing refusalLine
+too-long-text s h = rw (lt-leb (length s) 65536 h)
+
+refused-text : (s : List ℕ) {r : Refusal} → length s ≤ 65536 → judge s ≡ refused r → listing s ≡ firstLine refusedWord (numberOf r)
+unfolding listing listingVerdict refusalLine
+refused-text s h e = rw (le-leb (length s) 65536 h, e)
+
+pub wrote-too-long : {o e : List ℕ} {r : Written} (s : List ℕ) → 65536 < length s → Adds o 0 (firstLine refusedWord 1) e r → Wrote e (listing s) r
+wrote-too-long s h f = adds-first f (too-long-text s h)
+
+pub wrote-refused : {o e : List ℕ} {r : Written} (s : List ℕ) {why : Refusal} → length s ≤ 65536 → judge s ≡ refused why → (n : ℕ) → n ≡ numberOf why
+    → Adds o 0 (firstLine refusedWord n) e r → Wrote e (listing s) r
+wrote-refused s h j n i f = adds-first f (refused-text s h j ∙ ap (firstLine refusedWord) (sym i))
+
+-- ---- accepted
+module _ {s index : List ℕ} {count : ℕ} (short : length s ≤ 65536) (a : AcceptedIndex s index count) {o m : List ℕ} {q : Written}
+    (f : Adds o 0 (firstLine recordsWord count) m q) where
+  accepted-text : listing s ≡ firstLine recordsWord count ++ recordLines (records (a .tree))
+  unfolding listing listingVerdict listingOf
+  accepted-text =
+      rw (le-leb (length s) 65536 short, a .judged, sym (a .size)) (then-lines recordsWord (decimal count) (recordLines (records (a .tree))))
+
+  pub wrote-records : {e : List ℕ} {r : Written} {at : ℕ} → q ≡ Text at → LinesSay s index count m at e r → Wrote e (listing s) r
+  wrote-records h l = adds-first (adds-then f h (l .lines (a .tree) (a .judged) (a .size) (a .indexed))) accepted-text
+
+  pub wrote-short : q ≡ NoRoom → Wrote m (listing s) NoRoom
+  wrote-short h = adds-first (adds-short f h (recordLines (records (a .tree)))) accepted-text
+
+-- ---- a text is within the output
+pub wrote-within : (out text : List ℕ) (r : Written) (n : ℕ) → Wrote out text r → r ≡ Text n → n ≤ length out
+wrote-within out text r n w e = subst (λ (q : Written). Wrote out text q) e w .1

@@ -1,0 +1,164 @@
+// The text for a register.
+use index::Register;
+use index::judge;
+use register::fetch::fetch;
+ghost use mathlib.Core.Path.{_≡_};
+ghost use mathlib.Core.List.{[], _∷_, _++_};
+ghost use Prim.Native.Nat.{_≤_, _<_};
+ghost use lib.ListN.{length};
+ghost use Rattle.register.specs.Listing.{decimal, digits, hexDigit, lineFeed, listing};
+ghost use Rattle.listing.specs.Text.{Wrote, Adds, LineEndSays, LineSays, LinesSay};
+
+// A text's length, or that there is no room for it.
+pub enum Written {
+    Text(usize),
+    NoRoom,
+}
+
+// One byte, at a place.
+fn add_byte(out: &mut [u8], at: usize, byte: u8) -> Written
+    ensures { λ r. ⌜ Adds (now (out .entry)) at (byte ∷ []) (now (out .exit)) r ⌝ }
+{
+    if out.len() <= at {
+        return Written::NoRoom;
+    }
+    out[at] = byte;
+    Written::Text(at + 1)
+}
+
+// These bytes, at a place.
+fn add(out: &mut [u8], at: usize, bytes: &[u8]) -> Written
+    ensures { λ r. ⌜ Adds (now (out .entry)) at (now (bytes .entry)) (now (out .exit)) r ⌝ }
+{
+    if out.len() < at {
+        return Written::NoRoom;
+    }
+    if out.len() - at < bytes.len() {
+        return Written::NoRoom;
+    }
+    let mut i = 0;
+    while i < bytes.len() {
+        out[at + i] = bytes[i];
+        i += 1;
+    }
+    Written::Text(at + i)
+}
+
+// A number in decimal, of at most so many digits.
+fn add_digits(out: &mut [u8], at: usize, most: usize, n: usize) -> Written
+    ensures { λ r. ⌜ Adds (now (out .entry)) at (digits most n) (now (out .exit)) r ⌝ }
+{
+    if most == 0 {
+        return Written::Text(at);
+    }
+    if n < 10 {
+        return add_byte(out, at, 0x30 + n as u8);
+    }
+    match add_digits(out, at, most - 1, n / 10) {
+        Written::Text(next) => add_byte(out, next, 0x30 + (n % 10) as u8),
+        Written::NoRoom => Written::NoRoom,
+    }
+}
+
+// The first line: a word and a number.
+fn add_first_line(out: &mut [u8], word: &[u8], n: usize) -> Written
+    ensures { λ r. ⌜ Adds (now (out .entry)) 0 (now (word .entry) ++ (decimal n ++ (lineFeed ∷ []))) (now (out .exit)) r ⌝ }
+{
+    match add(out, 0, word) {
+        Written::Text(first) => match add_digits(out, first, 20, n) {
+            Written::Text(next) => add_byte(out, next, 0x0A),
+            Written::NoRoom => Written::NoRoom,
+        },
+        Written::NoRoom => Written::NoRoom,
+    }
+}
+
+fn hex_digit(n: u8) -> u8
+    requires { ⌜ n < 16 ⌝ }
+    ensures { λ r. ⌜ r ≡ hexDigit n ⌝ }
+{
+    if n < 10 { 0x30 + n } else { 0x57 + n }
+}
+
+// What follows the key in a record's line: a space, the value at a place in 64 digits, and a line feed.
+fn line_end(s: &[u8], at: usize) -> [u8; 66]
+    ensures { λ r. ⌜ LineEndSays (now (s .entry)) at r ⌝ }
+{
+    let mut text = [0x20u8; 66];
+    if s.len() < 32 {
+        return text;
+    }
+    if s.len() - 32 < at {
+        return text;
+    }
+    let mut i = 0;
+    while i < 32 {
+        let byte = s[at + i];
+        text[2 * i + 1] = hex_digit(byte / 16);
+        text[2 * i + 2] = hex_digit(byte % 16);
+        i += 1;
+    }
+    text[65] = 0x0A;
+    text
+}
+
+// The line of the record that a word of the index leads to.
+fn add_line(out: &mut [u8], at: usize, s: &[u8], word: u64) -> Written
+    ensures { λ r. ⌜ LineSays (now (s .entry)) word (now (out .entry)) at (now (out .exit)) r ⌝ }
+{
+    let mut buffer = [0u8; 256];
+    let found = fetch(s, word, &mut buffer);
+    let size = found.size;
+    if 256 < size {
+        return Written::NoRoom;
+    }
+    match add(out, at, &buffer[..size]) {
+        Written::Text(next) => {
+            let rest = line_end(s, found.value);
+            add(out, next, &rest)
+        }
+        Written::NoRoom => Written::NoRoom,
+    }
+}
+
+// The lines of all records.
+fn add_lines(out: &mut [u8], at: usize, s: &[u8], index: &[u64], count: usize) -> Written
+    requires { ⌜ count ≤ length (now index) ⌝ }
+    ensures { λ r. ⌜ LinesSay (now (s .entry)) (now (index .entry)) count (now (out .entry)) at (now (out .exit)) r ⌝ }
+{
+    let mut next = at;
+    let mut i = 0;
+    while i < count {
+        match add_line(out, next, s, index[i]) {
+            Written::Text(past) => {
+                next = past;
+            }
+            Written::NoRoom => {
+                return Written::NoRoom;
+            }
+        }
+        i += 1;
+    }
+    Written::Text(next)
+}
+
+// The listing of what was read.
+pub fn write_listing(s: &[u8], out: &mut [u8]) -> Written
+    ensures { λ r. ⌜ Wrote (now (out .exit)) (listing (now (s .entry))) r ⌝ }
+{
+    if 65536 < s.len() {
+        return add_first_line(out, b"refused ", 1);
+    }
+    let mut index = [0u64; 4096];
+    match judge(s, &mut index) {
+        Register::Accepted(count) => match add_first_line(out, b"records ", count) {
+            Written::Text(at) => add_lines(out, at, s, &index, count),
+            Written::NoRoom => Written::NoRoom,
+        },
+        Register::Refused(refusal) => add_first_line(
+            out,
+            b"refused ",
+            answer::number(refusal) as usize,
+        ),
+    }
+}
