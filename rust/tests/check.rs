@@ -154,7 +154,8 @@ fn random_sets() {
         .iter()
         .map(|kind| set(*kind, 1_000).into_iter().collect())
         .collect();
-    // 500 sets of 0 to 40 records, drawn from one or two kinds.
+    let mut cases = 0;
+    // Sets of 0 to 40 records, drawn from one or two kinds.
     for _ in 0..500 {
         let mut set = Set::new();
         for _ in 0..2 {
@@ -167,12 +168,14 @@ fn random_sets() {
         let register = table(&set);
         assert_eq!(check(&register), Ok(set.len()));
         assert_eq!(number_of(&register), 0);
+        cases += 1;
     }
+    assert_eq!(cases, 500);
 }
 
+/// A key of each length alone, and all of them together.
 #[test]
 fn each_length_of_keys() {
-    // 254 keys, each alone, and all of them together.
     let mut all = Set::new();
     for length in 3..=256 {
         let mut key = vec![b'k'; length];
@@ -189,13 +192,15 @@ fn each_length_of_keys() {
 #[test]
 fn each_count_of_entries() {
     let all: Vec<_> = set(Kind::OnePage, 300).into_iter().collect();
-    // 301 counts.
+    let mut cases = 0;
     for count in 0..=300 {
         let set: Set = all[..count].iter().cloned().collect();
         let register = table(&set);
         assert_eq!(pages(&set).len(), 1);
         assert_eq!(check(&register), Ok(count));
+        cases += 1;
     }
+    assert_eq!(cases, 301);
 }
 
 #[test]

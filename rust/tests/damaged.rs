@@ -51,9 +51,8 @@ fn cut_at_every_byte() {
         }
         assert_eq!(number_of(&register), 0);
     }
-    let bytes: usize = small_registers().iter().map(Vec::len).sum();
-    assert_eq!(cases, bytes);
-    assert!(cases > 4_000);
+    // As many as the registers have bytes.
+    assert_eq!(cases, 6_584);
 }
 
 #[test]
@@ -87,8 +86,7 @@ fn every_byte_changed() {
             }
         }
     }
-    let bytes: usize = small_registers().iter().map(Vec::len).sum();
-    assert_eq!(cases, 5 * bytes);
+    assert_eq!(cases, 5 * 6_584);
     // Single bytes reach all numbers that they can, and values of root pages are free.
     for number in [0, 2, 3, 6, 7, 8, 9, 10] {
         assert!(counts[number] > 0, "number {number}");
@@ -110,8 +108,8 @@ fn every_byte_with_every_byte() {
             }
         }
     }
-    let bytes: usize = small_registers()[..3].iter().map(Vec::len).sum();
-    assert_eq!(cases, 256 * bytes);
+    // The registers have 7, 64 and 148 bytes.
+    assert_eq!(cases, 256 * 219);
 }
 
 /// A changed byte of the form departs just there: with the bytes up to it the input is refused
@@ -665,8 +663,10 @@ fn unlawful_keys() {
         b"a\\b",
         b"a/\xc3\xa9",
     ];
+    let mut cases = 0;
     for key in keys {
         assert_eq!(number_of(&Page::of_keys(&[key]).table()), 7, "{key:?}");
+        cases += 1;
     }
     // All bytes at both sides of the slash.
     let mut lawful = 0;
@@ -677,9 +677,12 @@ fn unlawful_keys() {
             let number = number_of(&Page::of_keys(&[&key]).table());
             assert_eq!(number, expected, "{key:?}");
             lawful += usize::from(number == 0);
+            cases += 1;
         }
     }
+    // 20 keys, and 256 bytes at 2 places.
     assert_eq!(lawful, 2 * 67);
+    assert_eq!(cases, 20 + 256 * 2);
 }
 
 /// Keys that do not rise, within a page and from one page to another.
@@ -786,6 +789,7 @@ fn wrong_trees() {
     // 3 pages above each root, and 2 changes of each gap.
     let gaps: usize = sets.iter().map(|set| set.len() + pages(set).len()).sum();
     assert_eq!(cases, 3 * 10 + 2 * gaps);
+    assert_eq!(gaps, 76);
 }
 
 /// Keys in a page of another layer, though all gaps are filled.
@@ -875,7 +879,7 @@ fn wrong_digests() {
             cases += 1;
         }
     }
-    assert!(cases > 150);
+    assert_eq!(cases, 271);
 
     // A value below the root is covered by a digest, one in the root by none.
     let pages = pages(&set_of_layers(&[0, 1]));
@@ -1382,8 +1386,7 @@ fn two_registers_put_together() {
             }
         }
     }
-    let places: usize = registers[..6].iter().map(|one| one.len().div_ceil(7)).sum();
-    assert_eq!(cases, 6 * places);
+    assert_eq!(cases, 1_410);
 }
 
 /// Each head stands for a number in its shortest form only: 65,536 two-byte numbers.

@@ -87,7 +87,7 @@ fn each_record_by_the_safe_function() {
 fn records_of_large_registers() {
     let mut cases = 0;
     for kind in KINDS {
-        for (count, step) in [(1_000, 27), (4_096, 315)] {
+        for (count, step) in [(1_000, 37), (4_096, 585)] {
             let set = set(kind, count);
             let register = table(&set);
             for (n, (key, value)) in set.iter().enumerate() {
@@ -110,7 +110,7 @@ fn records_of_large_registers() {
         }
     }
     // The last record of 1,000 and that of 4,096 stand on a step.
-    assert_eq!(cases, KINDS.len() * (38 + 14));
+    assert_eq!(cases, KINDS.len() * (28 + 8));
 }
 
 /// Lists a register from its first record to past the end, as a caller would.

@@ -76,7 +76,7 @@ fn each_present_key() {
 fn present_keys_of_large_registers() {
     let mut cases = 0;
     for kind in KINDS {
-        for (count, step) in [(1_000, 27), (4_096, 315)] {
+        for (count, step) in [(1_000, 37), (4_096, 585)] {
             let set = set(kind, count);
             let register = table(&set);
             // Keys all over the register, with the first and the last.
@@ -92,7 +92,7 @@ fn present_keys_of_large_registers() {
             compare_lookup(&register, key).expect("the key is present");
         }
     }
-    assert_eq!(cases, KINDS.len() * (38 + 14));
+    assert_eq!(cases, KINDS.len() * (28 + 8));
 }
 
 /// Keys that differ little from present ones: shorter, longer, and with another byte.
@@ -174,7 +174,7 @@ fn unlawful_keys_are_refused() {
 #[test]
 fn each_byte_of_a_key() {
     let register = table(&set(Kind::Ordinary, 3));
-    let mut lawful_bytes = 0;
+    let (mut cases, mut lawful_bytes) = (0, 0);
     for byte in 0..=255_u8 {
         let expected = if byte.is_ascii_alphanumeric() || b".-_:~".contains(&byte) {
             lawful_bytes += 1;
@@ -190,9 +190,11 @@ fn each_byte_of_a_key() {
             [b'a', b'/', b'b', byte],
         ] {
             assert_eq!(compare_lookup(&register, &key), Err(expected), "{key:?}");
+            cases += 1;
         }
     }
     assert_eq!(lawful_bytes, 67);
+    assert_eq!(cases, 256 * 4);
 }
 
 /// The register is judged before the key.

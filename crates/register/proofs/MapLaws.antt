@@ -1,11 +1,11 @@
--- The sorted map: its order, the greater of two values, and what find, put, join, remove and merge do to a sorted list of records.
-use Prim.Native.Nat.{ℕ, suc, _+_, _≤_}
+-- The sorted map: its order, the greater of two values, and what find, nth, put, join, remove and merge do to a sorted list of records.
+use Prim.Native.Nat.{ℕ, zero, suc, _+_, _≤_, _<_}
 use mathlib.Core.Path.{_≡_, refl, sym, ap, _∙_}
 use mathlib.Core.Bool.{true, false, false≢true}
 use mathlib.Core.Option.{Option, none, some, Option·none-ne-some, Option·some-injective}
 use mathlib.Core.List.{List, [], _∷_}
 use native.Mathlib.Omega.{arith}
-use lib.ListN.{length}
+use lib.ListN.{length, getD}
 use borrow.Table.Steps.{cases}
 use Rattle.key.specs.Key.{less}
 use Rattle.key.proofs.Laws.{less-irreflexive, less-transitive, less-connected, is-false, less-asymmetric, less-same}
@@ -14,7 +14,7 @@ use Rattle.page.proofs.Tools.{and-inv, and-both, All}
 use Rattle.tree.specs.Record.{Record}
 use Rattle.tree.specs.Judge.{rising, fits}
 use Rattle.tree.proofs.Laws.{LawfulKey, RightValue, fitting}
-use Rattle.register.specs.Map.{find, isThere, insert, put, greater, join, remove, merge, greaterFound}
+use Rattle.register.specs.Map.{find, isThere, insert, put, greater, join, remove, merge, greaterFound, nth}
 
 -- ---- the order of keys, and lists in which every later key is greater
 abbrev pub Before : List ℕ → List ℕ → Type 0
@@ -108,6 +108,19 @@ module _ (k : List ℕ) (x : Record) (m : List Record) where
 pub find-above : (k : List ℕ) (m : List Record) → Above k m → find k m ≡ none
 find-above k [] a = find-nil k
 find-above k (x ∷ m) a = find-before k x m (a .0)
+
+-- ---- the n-th record
+pub nth-there : (n : ℕ) (m : List Record) (r : Record) → n < length m → nth n m ≡ some (getD m n r)
+unfolding nth
+nth-there n [] r h = absurd (omega arith)
+nth-there zero (x ∷ m) r h = refl
+nth-there (suc n) (x ∷ m) r h = nth-there n m r (omega arith)
+
+pub nth-past : (n : ℕ) (m : List Record) → length m ≤ n → nth n m ≡ none
+unfolding nth
+nth-past n [] h = refl
+nth-past zero (x ∷ m) h = absurd (omega arith)
+nth-past (suc n) (x ∷ m) h = nth-past n m (omega arith)
 
 -- ---- sorted lists in which every key finds the same are equal
 -- the finds of the tails, from those of the lists

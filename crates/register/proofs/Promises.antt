@@ -14,10 +14,10 @@ use Rattle.tree.specs.Judge.{accepted, judge, fits}
 use Rattle.tree.specs.Place.{places}
 use Rattle.tree.proofs.Laws.{fitting, fitting-fits, records-of-set, table-accepted, accepted-table, table-bytes, Stand, places-stand}
 use Rattle.register.specs.Map.{find, merge}
-use Rattle.register.specs.Outcome.{placeOf, answerPlace, lookupVerdict, lookupAnswer, Outcome, stopped, wrote, Plan, carryOut, putPlan, joinPlan, removePlan, mergePlan, onFirst, putOutcome, joinOutcome, removeOutcome, mergeOutcome, answerOf}
-use Rattle.register.specs.Difference.{lacking, differenceOutcome}
+use Rattle.register.specs.Outcome.{placeOf, answerPlace, lookupVerdict, lookupAnswer, Outcome, stopped, wrote, Plan, settle, carryOut, putPlan, joinPlan, removePlan, mergePlan, onFirst, putOutcome, joinOutcome, removeOutcome, mergeOutcome, answerOf}
+use Rattle.register.specs.Difference.{lacking, settleDifference, differenceVerdicts, differenceOutcome}
 use Rattle.register.specs.Plain.{Call, putCall, removeCall, joinCall, mergeCall, planOf, roomOf, mapOutcome, nextSet, mapAnswers, mapSet, callOutcome, nextHeld, libraryAnswers, held}
-use Rattle.register.specs.Promises.{RegisterOf, ValuesAreBytes, LookupIs, ReadsWhatItWrites, ReadsNothingElse, LookupFinds, PutFinds, RemoveFinds, JoinFinds, MergeFinds, AnswersAsTheMap, HoldsItsRegister, OneRegister, SameSetSameBytes, MergeCommutes, MergeAssociates, MergeIdempotent, DifferenceIsExact}
+use Rattle.register.specs.Promises.{RegisterOf, ValuesAreBytes, LookupIs, ReadsWhatItWrites, ReadsNothingElse, LookupFinds, PutFinds, RemoveFinds, JoinFinds, MergeFinds, RefusedWhenDue, AnswersAsTheMap, HoldsItsRegister, OneRegister, SameSetSameBytes, MergeCommutes, MergeAssociates, MergeIdempotent, DifferenceIsExact, DifferenceRefusedWhenDue}
 use Rattle.register.proofs.MapLaws.{fits-sorted}
 use Rattle.register.proofs.MergeLaws.{merge-commutes as sets-commute, merge-associates as sets-associate, merge-idempotent as set-idempotent}
 use Rattle.register.proofs.Steps.{carried, put-result, join-result, remove-result, merge-result, put-fits, join-fits, remove-fits, merged-fits, merge-fits, first-accepted, second-accepted}
@@ -114,14 +114,19 @@ merge-finds s u rs qs r q room written h =
     let f = merge-fits rs (reads-nothing-else s rs r .0) room written (accepted (q .tree)) (λ t e. accepted-is-table u t (q .judged ∙ e) .1) c in
     (p rs .result, wrote-register (p rs) room written c f, λ key. rw (← q .spells) (merge-result rs (q .tree) key (fits-sorted (records (q .tree)) fit)))
 
--- ---- demand 3
-same-outcome : (c : Call) (m : List Record) → fits m ≡ true → callOutcome c (tableOf m) ≡ mapOutcome c m
+-- ---- numbers
+same-outcome : (c : Call) (s : List ℕ) (m : List Record) → RegisterOf s m → callOutcome c s ≡ mapOutcome c m
 unfolding callOutcome mapOutcome planOf roomOf putOutcome joinOutcome removeOutcome mergeOutcome
-same-outcome (putCall k v room) m f = on-register (tableOf m) m (reads-what-it-writes m f) _ room
-same-outcome (removeCall k room) m f = on-register (tableOf m) m (reads-what-it-writes m f) _ room
-same-outcome (joinCall k v room) m f = on-register (tableOf m) m (reads-what-it-writes m f) _ room
-same-outcome (mergeCall u room) m f = on-register (tableOf m) m (reads-what-it-writes m f) _ room
+same-outcome (putCall k v room) s m r = on-register s m r _ room
+same-outcome (removeCall k room) s m r = on-register s m r _ room
+same-outcome (joinCall k v room) s m r = on-register s m r _ room
+same-outcome (mergeCall u room) s m r = on-register s m r _ room
 
+pub refused-when-due : RefusedWhenDue
+unfolding mapOutcome carryOut settle
+refused-when-due s rs r c = (λ d. same-outcome c (s .list) rs r ∙ rw d, λ n d. same-outcome c (s .list) rs r ∙ rw d)
+
+-- ---- demand 3
 plan-fits : (c : Call) (m : List Record) → fits m ≡ true → (t : List ℕ) → mapOutcome c m ≡ wrote t → fits (planOf c m .result) ≡ true
 unfolding mapOutcome planOf roomOf
 plan-fits (putCall k v room) m f t h = put-fits m f room t (k .list) (v .list) h
@@ -142,14 +147,14 @@ step-by c m f (wrote t) h = (carried (planOf c m) (roomOf c) t h .written, plan-
 
 step : (c : Call) (m : List Record) → fits m ≡ true
     → (nextHeld (callOutcome c (tableOf m)) (tableOf m) ≡ tableOf (next c m)) × (fits (next c m) ≡ true)
-step c m f = rw (same-outcome c m f) (step-by c m f (mapOutcome c m) refl)
+step c m f = rw (same-outcome c (tableOf m) m (reads-what-it-writes m f)) (step-by c m f (mapOutcome c m) refl)
 
 same-answers : (calls : List Call) (m : List Record) → fits m ≡ true → libraryAnswers calls (tableOf m) ≡ mapAnswers calls m
 unfolding libraryAnswers mapAnswers
 same-answers [] m f = refl
 same-answers (c ∷ calls) m f =
     let s = step c m f in
-    ap₂ (λ (a : Answer) (l : List Answer). a ∷ l) (ap answerOf (same-outcome c m f)) (rw (s .0) (same-answers calls (next c m) (s .1)))
+    ap₂ (λ (a : Answer) (l : List Answer). a ∷ l) (ap answerOf (same-outcome c (tableOf m) m (reads-what-it-writes m f))) (rw (s .0) (same-answers calls (next c m) (s .1)))
 
 held-table : (calls : List Call) (m : List Record) → fits m ≡ true
     → (held calls (tableOf m) ≡ tableOf (mapSet calls m)) × (fits (mapSet calls m) ≡ true)
@@ -232,3 +237,11 @@ difference-is-exact s u t v j k unshared room bytes count h =
     let f = difference-fits t v (fitting-fits (records v) (b .fit)) room (d .measured) in
     let e = opened-is-enough (s .list) (u .list) t v a b unshared in
     rw (d .written, e) (refl, reads-what-it-writes (lacking (records t) (records v)) (rw e at f), d .counted)
+
+pub difference-refused-when-due : DifferenceRefusedWhenDue
+unfolding differenceOutcome differenceVerdicts settleDifference
+difference-refused-when-due s u t v j k unshared room =
+    let a = accepted-table (s .list) (s .small) t j in
+    let b = accepted-table (u .list) (u .small) v k in
+    let e = opened-is-enough (s .list) (u .list) t v a b unshared in
+    rw (j, k, e) (λ d. rw d, λ n d. rw d)

@@ -8,17 +8,18 @@ use mathlib.Core.List.{List, [], _∷_, _++_}
 use lib.ListN.{take, drop}
 use Rattle.answer.specs.declared.Answer.{Answer}
 use Rattle.answer.specs.declared.Answer.the-variants.{Done, Refused}
+use Rattle.answer.specs.declared.Refusal.{Refusal}
 use Rattle.answer.specs.declared.Refusal.the-variants.{KeyAbsent}
 use Rattle.fips180.specs.Bytes.{Bytes, ByteString}
 use Rattle.fips180.specs.Hash.{sha256}
 use Rattle.key.specs.Key.{lawful}
 use Rattle.tree.specs.Record.{Record, records}
 use Rattle.tree.specs.Table.{SpeltTree, tableOf}
-use Rattle.tree.specs.Judge.{equal, accepted, judge, fits}
+use Rattle.tree.specs.Judge.{Test, due, equal, accepted, judge, fits}
 use Rattle.register.specs.Map.{find, greaterFound}
-use Rattle.register.specs.Outcome.{lookupAnswer, wrote, putOutcome, joinOutcome, removeOutcome, mergeOutcome}
-use Rattle.register.specs.Difference.{pagesOf, countOpened, lacking, found, differenceOutcome}
-use Rattle.register.specs.Plain.{Call, mapAnswers, mapSet, libraryAnswers, held}
+use Rattle.register.specs.Outcome.{lookupAnswer, stopped, wrote, sizes, putOutcome, joinOutcome, removeOutcome, mergeOutcome}
+use Rattle.register.specs.Difference.{pagesOf, countOpened, lacking, stopped as differenceStopped, found, differenceOutcome}
+use Rattle.register.specs.Plain.{Call, planOf, roomOf, mapAnswers, mapSet, callOutcome, libraryAnswers, held}
 
 -- A byte string is the register of the set of records that its pages spell.
 pub record RegisterOf (s : List ℕ) (rs : List Record) : Type 0 where
@@ -75,6 +76,17 @@ MergeFinds =
     (s u : ByteString) (rs qs : List Record) → RegisterOf (s .list) rs → RegisterOf (u .list) qs → (room : ℕ) (written : List ℕ)
     → mergeOutcome (s .list) (u .list) room ≡ wrote written
     → NewSetFinds written (λ key. greaterFound (find key rs) (find key qs))
+
+-- A writing call answers the first number that is due on its set and its arguments, and where none is due it writes: a number is returned in
+-- no other case.
+abbrev pub testsOf : Call → List Record → List Test
+testsOf call rs = planOf call rs .asks ++ sizes (planOf call rs .result) (roomOf call)
+
+abbrev pub RefusedWhenDue : Type 0
+RefusedWhenDue =
+    (s : ByteString) (rs : List Record) → RegisterOf (s .list) rs → (call : Call)
+    → (due (testsOf call rs) ≡ none → callOutcome call (s .list) ≡ wrote (tableOf (planOf call rs .result)))
+    × ((r : Refusal) → due (testsOf call rs) ≡ some r → callOutcome call (s .list) ≡ stopped r)
 
 -- Demand 3. For every list of puts, removals, joins and merges from any accepted register: every call answers as the plain map does, and after
 -- the list the register held is, byte for byte, that of the map's set.
@@ -142,3 +154,11 @@ DifferenceIsExact =
     → (bytes ≡ tableOf (lacking (records t) (records v)))
     × RegisterOf bytes (lacking (records t) (records v))
     × (count ≡ countOpened (pagesOf t) v)
+
+-- It is refused with 5 or 13 when that number is due on those records, and in no other case.
+abbrev pub DifferenceRefusedWhenDue : Type 0
+DifferenceRefusedWhenDue =
+    (s u : ByteString) (t v : SpeltTree) → judge (s .list) ≡ accepted t → judge (u .list) ≡ accepted v → NoSharedDigest t v → (room : ℕ)
+    → (due (sizes (lacking (records t) (records v)) room) ≡ none
+    → differenceOutcome (s .list) (u .list) room ≡ found (tableOf (lacking (records t) (records v))) (countOpened (pagesOf t) v))
+    × ((r : Refusal) → due (sizes (lacking (records t) (records v)) room) ≡ some r → differenceOutcome (s .list) (u .list) room ≡ differenceStopped r)

@@ -165,8 +165,8 @@ fn compare_refused(register: &[u8], number: u8) {
     }
 }
 
-/// The first, the middle and the last record are found and listed, and the register is the one
-/// of its set.
+/// The last record is found and listed, in all but large registers also the first and the middle
+/// one, and the register is the one of its set.
 fn compare_accepted(register: &[u8], count: usize) {
     let set = independent::set_of(register).expect("the register is accepted");
     assert_eq!(set.len(), count);
@@ -174,13 +174,14 @@ fn compare_accepted(register: &[u8], count: usize) {
 
     let mut lent = register.to_vec();
     let records: Vec<_> = set.iter().collect();
-    for n in [0, count / 2, count.saturating_sub(1)] {
-        let Some((key, value)) = records.get(n) else {
+    let numbers = [count.wrapping_sub(1), 0, count / 2];
+    for n in &numbers[..if count < 1_000 { 3 } else { 1 }] {
+        let Some((key, value)) = records.get(*n) else {
             continue;
         };
         compare_lookup(register, key).expect("the key is present");
         assert_eq!(lookup(register, key), Ok(*value));
-        let listed = raw_list(&mut lent, n as u64, key.len());
+        let listed = raw_list(&mut lent, *n as u64, key.len());
         assert_eq!(listed, (256 * key.len() as u64, key.to_vec(), **value));
     }
     assert_eq!(
