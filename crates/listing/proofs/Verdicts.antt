@@ -1,19 +1,22 @@
 -- The text for a verdict.
-use Prim.Native.Nat.{ℕ, _≤_, _<_}
+use Prim.Native.Nat.{ℕ, _^_, _≤_, _<_}
 use mathlib.Core.Path.{_≡_, sym, ap, subst, _∙_}
 use mathlib.Core.List.{List, [], _∷_, _++_}
 use lib.ListN.{length}
 use borrow.Author.Tests.{le-leb, lt-leb}
+use Rattle.fips180.specs.Bytes.{Bytes}
 use Rattle.answer.specs.Answer.{numberOf}
 use Rattle.answer.specs.declared.Refusal.{Refusal}
 use Rattle.tree.specs.Record.{records}
 use Rattle.tree.specs.Judge.{refused, judge}
 use Rattle.index.specs.Walk.{AcceptedIndex}
+use Rattle.row.specs.Row.{Row, recordsOf}
+use Rattle.row.proofs.Rows.{accepted-short, accepted-row, accepted-records}
 use Rattle.register.specs.Listing.{decimal, space, lineFeed, recordLines, listingOf, refusalLine, listingVerdict, listing}
-use Rattle.listing.specs.Text.{Wrote, Adds, LinesSay}
+use Rattle.listing.specs.Text.{Wrote, Adds}
 use Rattle.listing.specs.declared.text.Written.{Written}
 use Rattle.listing.specs.declared.text.Written.the-variants.{Text, NoRoom}
-use Rattle.listing.proofs.Adding.{adds-then, adds-short, adds-first, then-lines}
+use Rattle.listing.proofs.Adding.{adds-then, adds-short, adds-same, adds-first, then-lines}
 
 -- ---- the first lines
 abbrev firstLine : List ℕ → ℕ → List ℕ
@@ -42,6 +45,12 @@ pub wrote-refused : {o e : List ℕ} {r : Written} (s : List ℕ) {why : Refusal
 wrote-refused s h j n i f = adds-first f (refused-text s h j ∙ ap (firstLine refusedWord) (sym i))
 
 -- ---- accepted
+-- its index is a row
+pub index-row : {s index : List ℕ} {count : ℕ} → Bytes s → AcceptedIndex s index count → count ≤ length index → Row s s index count
+index-row {s} {index} {count} b a room =
+    let short : length s < 2 ^ 24 = accepted-short s index (a .tree) count b (a .judged) (a .indexed) (a .size) room in
+    accepted-row s index (a .tree) count b (a .judged) (a .indexed) (a .size) room s short
+
 module _ {s index : List ℕ} {count : ℕ} (short : length s ≤ 65536) (a : AcceptedIndex s index count) {o m : List ℕ} {q : Written}
     (f : Adds o 0 (firstLine recordsWord count) m q) where
   accepted-text : listing s ≡ firstLine recordsWord count ++ recordLines (records (a .tree))
@@ -49,8 +58,11 @@ module _ {s index : List ℕ} {count : ℕ} (short : length s ≤ 65536) (a : Ac
   accepted-text =
       rw (le-leb (length s) 65536 short, a .judged, sym (a .size)) (then-lines recordsWord (decimal count) (recordLines (records (a .tree))))
 
-  pub wrote-records : {e : List ℕ} {r : Written} {at : ℕ} → q ≡ Text at → LinesSay s index count m at e r → Wrote e (listing s) r
-  wrote-records h l = adds-first (adds-then f h (l .lines (a .tree) (a .judged) (a .size) (a .indexed))) accepted-text
+  pub wrote-records : {e : List ℕ} {r : Written} {at : ℕ} → Bytes s → count ≤ length index → q ≡ Text at
+      → Adds m at (recordLines (recordsOf s s index count)) e r → Wrote e (listing s) r
+  wrote-records b room h l =
+      let all : recordsOf s s index count ≡ records (a .tree) = accepted-records s index (a .tree) count b (a .judged) (a .indexed) (a .size) room s in
+      adds-first (adds-then f h (adds-same l (ap recordLines (sym all)))) accepted-text
 
   pub wrote-short : q ≡ NoRoom → Wrote m (listing s) NoRoom
   wrote-short h = adds-first (adds-short f h (recordLines (records (a .tree)))) accepted-text

@@ -3,13 +3,10 @@ use Prim.Native.Nat.{ℕ, _+_, _≤_, _<_}
 use mathlib.Core.Path.{_≡_}
 use mathlib.Core.List.{List, [], _∷_, _++_}
 use lib.ListN.{length, take, drop}
-use Rattle.tree.specs.Record.{records}
-use Rattle.tree.specs.Table.{SpeltTree}
-use Rattle.tree.specs.Judge.{accepted, judge}
-use Rattle.index.specs.Slot.{Slot, slots, keyOf}
-use Rattle.index.specs.Walk.{pageIn, entryIn, Indexes}
-use Rattle.index.specs.Standing.{SlotAt}
-use Rattle.register.specs.Listing.{hexadecimal, space, lineFeed, recordLines}
+use Rattle.tree.specs.Record.{Record}
+use Rattle.row.specs.Row.{recordOf}
+use Rattle.row.specs.Memory.{Remembers}
+use Rattle.register.specs.Listing.{hexadecimal, space, lineFeed}
 use Rattle.listing.specs.declared.text.Written.{Written}
 use Rattle.listing.specs.declared.text.Written.the-variants.{Text, NoRoom}
 
@@ -29,12 +26,10 @@ lineEnd value = space ∷ (hexadecimal value ++ (lineFeed ∷ []))
 pub record LineEndSays (s : List ℕ) (at : ℕ) (text : List ℕ) : Type 0 where
   pub ends : at + 32 ≤ length s → text ≡ lineEnd (take 32 (drop at s))
 
--- The line of the record whose slot the word leads to.
-pub record LineSays (s : List ℕ) (word : ℕ) (entry : List ℕ) (at : ℕ) (exit : List ℕ) (r : Written) : Type 0 where
-  pub line : (x : Slot) → SlotAt s x → length (keyOf x) ≤ 256 → pageIn word ≡ x .page → entryIn word ≡ x .entry
-      → Adds entry at (keyOf x ++ lineEnd (x .item .val)) exit r
+abbrev pub lineOf : Record → List ℕ
+lineOf r = r .key ++ lineEnd (r .val)
 
--- The lines of all records of an accepted register.
-pub record LinesSay (s index : List ℕ) (count : ℕ) (entry : List ℕ) (at : ℕ) (exit : List ℕ) (r : Written) : Type 0 where
-  pub lines : (t : SpeltTree) → judge s ≡ accepted t → count ≡ length (records t) → Indexes index (slots 0 0 t)
-      → Adds entry at (recordLines (records t)) exit r
+-- The line of the word's record is added, and the memory remembers.
+pub record LineSays (s : List ℕ) (word : ℕ) (entry : List ℕ) (at : ℕ) (exit keys notes : List ℕ) (r : Written) : Type 0 where
+  pub line : Adds entry at (lineOf (recordOf s s word)) exit r
+  pub remembers : Remembers s s keys notes

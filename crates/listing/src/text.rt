@@ -1,13 +1,15 @@
 // The text for a register.
 use index::Register;
 use index::judge;
-use register::fetch::fetch;
+use row::recall::recall;
 ghost use mathlib.Core.Path.{_≡_};
 ghost use mathlib.Core.List.{[], _∷_, _++_};
-ghost use Prim.Native.Nat.{_≤_, _<_};
+ghost use Prim.Native.Nat.{_^_, _<_};
 ghost use lib.ListN.{length};
-ghost use Rattle.register.specs.Listing.{decimal, digits, hexDigit, lineFeed, listing};
-ghost use Rattle.listing.specs.Text.{Wrote, Adds, LineEndSays, LineSays, LinesSay};
+ghost use Rattle.row.specs.Row.{Stands, Row, recordsOf};
+ghost use Rattle.row.specs.Memory.{Remembers};
+ghost use Rattle.register.specs.Listing.{decimal, digits, hexDigit, lineFeed, recordLines, listing};
+ghost use Rattle.listing.specs.Text.{Wrote, Adds, LineEndSays, LineSays};
 
 // A text's length, or that there is no room for it.
 pub enum Written {
@@ -102,17 +104,22 @@ fn line_end(s: &[u8], at: usize) -> [u8; 66]
     text
 }
 
-// The line of the record that a word of the index leads to.
-fn add_line(out: &mut [u8], at: usize, s: &[u8], word: u64) -> Written
-    ensures { λ r. ⌜ LineSays (now (s .entry)) word (now (out .entry)) at (now (out .exit)) r ⌝ }
+// The line of the record that a word of the index leads to. The memory goes on from its key, so that each page is passed once.
+fn add_line(
+    out: &mut [u8],
+    at: usize,
+    s: &[u8],
+    word: u64,
+    keys: &mut [u8],
+    notes: &mut [u64],
+) -> Written
+    requires { ⌜ (length (now s) < 2 ^ 24) × Stands (now s) (now s) word × Remembers (now s) (now s) (now keys) (now notes) × (length (now notes) ≡ 64) ⌝ }
+    ensures { λ r. ⌜ LineSays (now (s .entry)) word (now (out .entry)) at (now (out .exit)) (now (keys .exit)) (now (notes .exit)) r ⌝ }
 {
-    let mut buffer = [0u8; 256];
-    let found = fetch(s, word, &mut buffer);
-    let size = found.size;
-    if 256 < size {
-        return Written::NoRoom;
-    }
-    match add(out, at, &buffer[..size]) {
+    let found = recall(s, s, word, 0, keys, notes);
+    let from = found.from;
+    let to = from + found.size;
+    match add(out, at, &keys[from..to]) {
         Written::Text(next) => {
             let rest = line_end(s, found.value);
             add(out, next, &rest)
@@ -123,13 +130,15 @@ fn add_line(out: &mut [u8], at: usize, s: &[u8], word: u64) -> Written
 
 // The lines of all records.
 fn add_lines(out: &mut [u8], at: usize, s: &[u8], index: &[u64], count: usize) -> Written
-    requires { ⌜ count ≤ length (now index) ⌝ }
-    ensures { λ r. ⌜ LinesSay (now (s .entry)) (now (index .entry)) count (now (out .entry)) at (now (out .exit)) r ⌝ }
+    requires { ⌜ Row (now s) (now s) (now index) count ⌝ }
+    ensures { λ r. ⌜ Adds (now (out .entry)) at (recordLines (recordsOf (now (s .entry)) (now (s .entry)) (now (index .entry)) count)) (now (out .exit)) r ⌝ }
 {
+    let mut keys = [0u8; 16384];
+    let mut notes = [0u64; 64];
     let mut next = at;
     let mut i = 0;
     while i < count {
-        match add_line(out, next, s, index[i]) {
+        match add_line(out, next, s, index[i], &mut keys, &mut notes) {
             Written::Text(past) => {
                 next = past;
             }

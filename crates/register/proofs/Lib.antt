@@ -7,6 +7,5 @@ pub mod Promises
 pub mod Outputs
 pub mod Verdicts
 pub mod Listings
-pub mod Fetching
 pub mod Searching
 pub mod Answering

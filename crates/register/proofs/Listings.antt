@@ -23,15 +23,15 @@ use Rattle.tree.specs.Judge.{allLawful, refused, judge}
 use Rattle.page.proofs.Tools.{and-inv}
 use Rattle.tree.proofs.Laws.{all-lawful, accepted-table}
 use Rattle.index.specs.Slot.{Slot, slots, keyOf}
-use Rattle.index.specs.Buffer.{HoldsKey}
 use Rattle.index.specs.Walk.{AcceptedIndex, Indexes, blank}
 use Rattle.index.specs.Standing.{SlotAt}
 use Rattle.index.proofs.SlotLaws.{slots-length, slot-record}
 use Rattle.index.proofs.Standing.{accepted-slot-stands, value-within}
 use Rattle.register.specs.Map.{nth}
 use Rattle.register.specs.Outcome.{Listed, unlisted, pastTheEnd, listed, listRecord, listVerdict, listOutcome, listAnswer, listKey, listValue}
-use Rattle.register.specs.Fetch.{FetchSays}
-use Rattle.register.specs.declared.fetch.Found.{Found}
+use Rattle.row.specs.Fetch.{Fetched, FetchSays}
+use Rattle.row.specs.declared.fetch.Found.{Found}
+use Rattle.row.proofs.Memories.{no-note}
 use Rattle.register.proofs.Outputs.{drop-zeros}
 
 -- ---- the n-th of some records
@@ -107,24 +107,24 @@ module _ {s index : List ℕ} {count : ℕ} (a : AcceptedIndex s index count) (b
       subst (λ (r : Record). length (r .key) ≤ 256) (sym (slot-record 0 0 (a .tree) n blank within (blank .item)))
       (lawful-short (getD (records (a .tree)) n (blank .item) .key) l)
 
-  module _ (buffer : List ℕ) (found : Found) (f : FetchSays s (getD index n 0) buffer found) (i : n < length index) where
+  module _ (buffer₀ buffer : List ℕ) (found : Found) (f : FetchSays s (getD index n 0) buffer₀ 0 buffer found) (i : n < length index) where
     -- its key and the place of its value are found
-    says : HoldsKey buffer (found .size) (keyOf slotOf) × (found .value ≡ slotOf .value)
+    says : Fetched s slotOf stands buffer found
     unfolding FetchSays Indexes
-    says = let w = a .indexed n within i in f slotOf stands (w .page) (w .entry)
+    says = let w = a .indexed n within i in f slotOf stands (w .page) (w .entry) (no-note s buffer₀)
 
     pub size-small : found .size ≤ 256
-    size-small = omega (arith, says .0 .size, key-short)
+    size-small = omega (arith, says .holds .size, key-short)
 
     pub list-no-room : (room : ℕ) {out value : List ℕ} → out ≡ zeros room → value ≡ zeros 32 → room < found .size
         → ListSays (listOutcome s n room) room (Refused NoRoom) out value
     unfolding listOutcome listVerdict listRecord
     list-no-room room o v k =
-        let e : room < length (keyOf slotOf) = omega (arith, says .0 .size) in
+        let e : room < length (keyOf slotOf) = omega (arith, says .holds .size) in
         refused-with room o v (listOutcome s n room) (rw (a .judged, nth-of-slot, lt-leb (length (keyOf slotOf)) room e))
 
     key-held : length buffer ≡ 256 → take (found .size) buffer ≡ keyOf slotOf
-    key-held e = says .0 .bytes ∙ take-all (length buffer) (keyOf slotOf) (omega (arith, key-short))
+    key-held e = says .holds .bytes ∙ take-all (length buffer) (keyOf slotOf) (omega (arith, key-short))
 
     -- the key at the front of the cleared output, and the value beside it
     pub list-record : (room : ℕ) (out cleared value : List ℕ) → length buffer ≡ 256 → found .size ≤ room → cleared ≡ zeros room
@@ -134,9 +134,9 @@ module _ {s index : List ℕ} {count : ℕ} (a : AcceptedIndex s index count) (b
     unfolding listOutcome listVerdict listRecord listAnswer listKey listValue
     list-record room out cleared value e k z o v =
         let x : Slot = slotOf in
-        let fits : length (keyOf x) ≤ room = omega (arith, says .0 .size) in
+        let fits : length (keyOf x) ≤ room = omega (arith, says .holds .size) in
         let q : listOutcome s n room ≡ listed (x .item) = rw (a .judged, nth-of-slot, le-leb (length (keyOf x)) room fits) in
-        let place : found .value + 32 ≤ length s = omega (arith, says .1, value-within stands) in (
-          rw q (ap Done (says .0 .size)),
-          (rw q (o ∙ rw (key-held e, z, drop-zeros (length (keyOf x)) room)), rw q (v place ∙ rw (says .1) (stands .bytes))),
+        let place : found .value + 32 ≤ length s = omega (arith, says .value, value-within stands) in (
+          rw q (ap Done (says .holds .size)),
+          (rw q (o ∙ rw (key-held e, z, drop-zeros (length (keyOf x)) room)), rw q (v place ∙ rw (says .value) (stands .bytes))),
         )

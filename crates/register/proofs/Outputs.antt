@@ -1,12 +1,12 @@
--- Bytes of outputs: zeros from end to end, and bytes copied from a place.
+-- Bytes of outputs: zeros from end to end.
 use Prim.Native.Nat.{ℕ, zero, suc, _+_, _-_, _≤_, _<_}
 use mathlib.Core.Path.{_≡_, refl, sym, ap, _∙_}
 use mathlib.Core.List.{List, _∷_, _++_, append-nil}
 use native.Mathlib.Nat.{sub-zero, zero-sub, suc-sub-suc}
 use native.Mathlib.Numerals.{add-one}
 use native.Mathlib.Omega.{arith}
-use lib.ListN.{length, take, drop, getD, set, length-drop, length-replicate, drop-of-length-le}
-use lib.Seq.{take-all, take-suc, take-suc-set, drop-cons, set-at, getD-drop}
+use lib.ListN.{length, drop, getD, set, length-replicate, drop-of-length-le}
+use lib.Seq.{drop-cons, set-at}
 use Rattle.fips180.specs.Hash.{zeros}
 
 -- ---- zeros
@@ -31,19 +31,3 @@ module _ (o out : List ℕ) (i : ℕ) (u : ClearedSoFar o out i) where
   cleared-more h =
       rw (u, add-one i, drop-cons o i 0 h, set-at (zeros i) (getD o i 0) (drop (suc i) o) 0 i (length-replicate i 0))
       (one-more-zero i (drop (suc i) o))
-
--- ---- the bytes at a place
--- the first i are copied
-abbrev pub CopiedSoFar : List ℕ → ℕ → List ℕ → ℕ → Type 0
-CopiedSoFar s at value i = take i value ≡ take i (drop at s)
-
-module _ (s : List ℕ) (at : ℕ) (value : List ℕ) (i : ℕ) (u : CopiedSoFar s at value i) where
-  pub copied-more : i < length value → at + i < length s → CopiedSoFar s at (set value i (getD s (at + i) 0)) (i + 1)
-  copied-more h k =
-      let n : i < length (drop at s) = omega (arith, length-drop at s) in
-      rw (add-one i, take-suc-set value i (getD s (at + i) 0) h, take-suc (drop at s) i 0 n, getD-drop at s i 0, u)
-
-  pub copied-all : (n : ℕ) → length value ≡ n → n ≤ i → i ≤ n → value ≡ take n (drop at s)
-  copied-all n e h k =
-      let j : i ≡ n = omega arith in
-      sym (take-all i value (omega arith)) ∙ u ∙ ap (λ (m : ℕ). take m (drop at s)) j

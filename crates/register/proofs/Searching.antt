@@ -28,8 +28,10 @@ use Rattle.index.proofs.Buffers.{holds-whole}
 use Rattle.index.proofs.SlotLaws.{slots-length, slots-places, slot-record, slot-place}
 use Rattle.index.proofs.Standing.{accepted-slot-stands}
 use Rattle.register.specs.Outcome.{placeOf}
-use Rattle.register.specs.Fetch.{FetchSays, SearchSays}
-use Rattle.register.specs.declared.fetch.Found.{Found}
+use Rattle.row.specs.Fetch.{Fetched, FetchSays}
+use Rattle.row.specs.declared.fetch.Found.{Found}
+use Rattle.row.proofs.Memories.{no-note}
+use Rattle.register.specs.Search.{SearchSays}
 use Rattle.register.specs.declared.search.Searched.the-variants.{At, Absent}
 
 -- ---- the keys of a row of records
@@ -120,7 +122,7 @@ module _ (s index : List ℕ) (count : ℕ) (k : List ℕ) where
     middle = low + (high - low) / 2
 
     module _ (bytes : Bytes s) (room : count ≤ length index) (more : low < high)
-        (buffer : List ℕ) (found : Found) (w : FetchSays s (getD index middle 0) buffer found) where
+        (buffer₀ buffer : List ℕ) (found : Found) (w : FetchSays s (getD index middle 0) buffer₀ 0 buffer found) where
       -- the record at the middle
       module _ (t : SpeltTree) (a : judge s ≡ accepted t) (c : count ≡ length (records t)) (x : Indexes index (slots 0 0 t)) where
         fit : Fitting (records t)
@@ -136,18 +138,18 @@ module _ (s index : List ℕ) (count : ℕ) (k : List ℕ) where
         unfolding Indexes
         word = x middle there (omega arith)
 
-        fetched : HoldsKey buffer (found .size) (keyOf slot) × (found .value ≡ slot .value)
+        fetched : Fetched s slot (accepted-slot-stands s t bytes a middle there) buffer found
         unfolding FetchSays
-        fetched = w slot (accepted-slot-stands s t bytes a middle there) (word .page) (word .entry)
+        fetched = w slot (accepted-slot-stands s t bytes a middle there) (word .page) (word .entry) (no-note s buffer₀)
 
         same-key : keyOf slot ≡ keyAt (records t) middle
         same-key = ap (λ (r : Record). r .key) (slot-record 0 0 t middle blank there noRecord)
 
         holds : HoldsKey buffer (found .size) (keyAt (records t) middle)
-        holds = subst (HoldsKey buffer (found .size)) same-key (fetched .0)
+        holds = subst (HoldsKey buffer (found .size)) same-key (fetched .holds)
 
         value : found .value ≡ getD (places 0 t) middle 0
-        value = fetched .1 ∙ slot-place 0 0 t middle blank there 0
+        value = fetched .value ∙ slot-place 0 0 t middle blank there 0
 
         short : found .size ≤ 256
         short = omega (arith, holds .size, short-at (records t) (all-lawful (records t) (fit .keys)) middle (omega arith))

@@ -4,4 +4,4 @@ pub mod Difference
 pub mod Plain
 pub mod Promises
 pub mod Listing
-pub mod Fetch
+pub mod Search

@@ -1,8 +1,8 @@
 // Bytes of outputs.
 ghost use mathlib.Core.Path.{_≡_};
 ghost use mathlib.Core.List.{_++_};
-ghost use Prim.Native.Nat.{_+_, _≤_};
-ghost use lib.ListN.{length, take, drop};
+ghost use Prim.Native.Nat.{_≤_};
+ghost use lib.ListN.{length, drop};
 ghost use Rattle.fips180.specs.Hash.{zeros};
 
 // The output, zero from end to end.
@@ -26,23 +26,4 @@ pub fn copy_in(out: &mut [u8], bytes: &[u8])
         out[i] = bytes[i];
         i += 1;
     }
-}
-
-// The 32 bytes at a place.
-pub fn value_at(s: &[u8], at: usize) -> [u8; 32]
-    ensures { λ r. ⌜ (at + 32 ≤ length (now (s .entry)) → r ≡ take 32 (drop at (now (s .entry)))) ⌝ }
-{
-    let mut value = [0u8; 32];
-    if s.len() < 32 {
-        return value;
-    }
-    if s.len() - 32 < at {
-        return value;
-    }
-    let mut i = 0;
-    while i < 32 {
-        value[i] = s[at + i];
-        i += 1;
-    }
-    value
 }

@@ -1,12 +1,9 @@
 // The calls on registers.
 mod bytes; // bytes of outputs
-pub mod fetch; // a record, from its word in the index
 pub mod search; // the place of a key's value
 
 use crate::bytes::clear;
 use crate::bytes::copy_in;
-use crate::bytes::value_at;
-use crate::fetch::fetch;
 use crate::search::Searched;
 use crate::search::search;
 use answer::Answer;
@@ -14,6 +11,8 @@ use answer::Refusal;
 use index::Register;
 use index::judge;
 use key::rule::is_lawful;
+use row::bytes::value_at;
+use row::fetch::fetch_from;
 ghost use mathlib.Core.Path.{_≡_};
 ghost use lib.ListN.{length};
 ghost use Rattle.register.specs.Outcome.{checkAnswer, lookupAnswer, listOutcome, listAnswer, listKey, listValue};
@@ -66,7 +65,7 @@ pub fn list(register: &[u8], n: u64, out: &mut [u8], value: &mut [u8; 32]) -> An
             }
             let i = n as usize;
             let mut buffer = [0u8; 256];
-            let found = fetch(register, index[i], &mut buffer);
+            let found = fetch_from(register, index[i], &mut buffer, 0);
             let size = found.size;
             if 256 < size {
                 return Answer::Done(0);

@@ -1,11 +1,10 @@
 // The place of a key's value, by halves of the index.
-use crate::fetch::fetch;
 use key::order::Order;
 use key::order::compare;
-ghost use mathlib.Core.Path.{_≡_};
+use row::fetch::fetch_from;
 ghost use Prim.Native.Nat.{_≤_};
 ghost use lib.ListN.{length};
-ghost use Rattle.register.specs.Fetch.{SearchSays};
+ghost use Rattle.register.specs.Search.{SearchSays};
 
 pub enum Searched {
     At(usize),
@@ -21,7 +20,7 @@ pub fn search(s: &[u8], index: &[u64], count: usize, key: &[u8]) -> Searched
     let mut high = count;
     while low < high {
         let middle = low + (high - low) / 2;
-        let found = fetch(s, index[middle], &mut buffer);
+        let found = fetch_from(s, index[middle], &mut buffer, 0);
         let size = found.size;
         if 256 < size {
             return Searched::Absent;

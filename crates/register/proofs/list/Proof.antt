@@ -32,8 +32,8 @@ returns c =
     let e = c .before .before .before .before .before .before .before .before .before .before .clear .ensures in
     list-past (length (a .out .now)) e refl (a .n) index (omega arith)
 
-mul-fetch : tie.Need-mul-fetch
-mul-fetch c =
+mul-fetch-from : tie.Need-mul-fetch-from
+mul-fetch-from c =
     let a = c .before .before .before .before .before .before .before .before .before .before .before .before .before .before .args in
     let j = c .before .before .before .before .before .judge in
     let index = accepted-index (a .register .now) _ (j .result) (j .ensures) (c .before .before .count .given .1) in
@@ -41,8 +41,8 @@ mul-fetch c =
     let few = accepted-few bytes index in
     omega arith
 
-array-read-fetch : tie.Need-array-read-fetch
-array-read-fetch c =
+array-read-fetch-from : tie.Need-array-read-fetch-from
+array-read-fetch-from c =
     let a = c .before .before .before .before .before .before .before .before .before .before .before .before .before .before .args in
     let j = c .before .before .before .before .before .judge in
     let index = accepted-index (a .register .now) _ (j .result) (j .ensures) (c .before .before .count .given .1) in
@@ -50,11 +50,11 @@ array-read-fetch c =
     let few = accepted-few bytes index in
     omega arith
 
-slice-aggregate-fetch : tie.Need-slice-aggregate-fetch
-slice-aggregate-fetch c = search needs
+slice-aggregate-fetch-from : tie.Need-slice-aggregate-fetch-from
+slice-aggregate-fetch-from c = search needs
 
-fetch-requires : tie.Need-fetch-requires
-fetch-requires c κs = search needs
+fetch-from-requires : tie.Need-fetch-from-requires
+fetch-from-requires c κs = search needs
 
 same-length-2 : tie.Need-same-length-2
 same-length-2 c = search needs
@@ -66,8 +66,8 @@ returns-2 c =
     let index = accepted-index (a .register .now) _ (j .result) (j .ensures) (c .before .before .before .before .before .before .count .given .1) in
     let bytes = bytes-of (a .register .now) (λ i h. omega (arith, c .before .before .before .before .before .before .before .before .before .before .before .before .before .before .before .before .before .shared-slice-known .given i)) in
     let few = accepted-few bytes index in
-    let f = c .before .before .fetch in
-    let over = size-small index bytes (a .n) (omega arith) _ (f .result) (f .ensures) (omega arith) in
+    let f = c .before .before .fetch-from in
+    let over = size-small index bytes (a .n) (omega arith) _ _ (f .result) (f .ensures) (omega arith) in
     absurd (omega arith)
 
 same-length-3 : tie.Need-same-length-3
@@ -80,21 +80,21 @@ returns-3 c =
     let index = accepted-index (a .register .now) _ (j .result) (j .ensures) (c .before .before .before .before .before .before .before .count .given .1) in
     let bytes = bytes-of (a .register .now) (λ i h. omega (arith, c .before .before .before .before .before .before .before .before .before .before .before .before .before .before .before .before .before .before .shared-slice-known .given i)) in
     let few = accepted-few bytes index in
-    let f = c .before .before .before .fetch in
+    let f = c .before .before .before .fetch-from in
     let e = c .before .before .before .before .before .before .before .before .before .before .before .before .before .before .before .clear .ensures in
-    list-no-room index bytes (a .n) (omega arith) _ (f .result) (f .ensures) (omega arith) (length (a .out .now)) e refl (omega arith)
+    list-no-room index bytes (a .n) (omega arith) _ _ (f .result) (f .ensures) (omega arith) (length (a .out .now)) e refl (omega arith)
 
 array-share-prefix-buffer : tie.Need-array-share-prefix-buffer
 array-share-prefix-buffer c = search needs
 
 slice-aggregate-copy-in : tie.Need-slice-aggregate-copy-in
 slice-aggregate-copy-in c =
-    let f = c .before .before .before .before .before .fetch in
+    let f = c .before .before .before .before .before .fetch-from in
     sym (length-take-le (f .result .size) (f .last .1 .1 .0) (omega arith))
 
 copy-in-requires : tie.Need-copy-in-requires
 copy-in-requires c κs =
-    let f = c .before .before .before .before .before .fetch in
+    let f = c .before .before .before .before .before .fetch-from in
     omega (arith, length-take (f .result .size) (f .last .1 .1 .0))
 
 value-at-requires : tie.Need-value-at-requires
@@ -116,9 +116,9 @@ returns-4 c =
     let index = accepted-index (a .register .now) _ (j .result) (j .ensures) (c .before .before .before .before .before .before .before .before .before .before .before .before .before .count .given .1) in
     let bytes = bytes-of (a .register .now) (λ i h. omega (arith, c .before .before .before .before .before .before .before .before .before .before .before .before .before .before .before .before .before .before .before .before .before .before .before .before .shared-slice-known .given i)) in
     let few = accepted-few bytes index in
-    let f = c .before .before .before .before .before .before .before .before .before .fetch in
-    let e = c .before .before .before .before .before .before .before .before .before .before .before .before .before .before .before .before .before .before .before .before .before .clear .ensures in
-    list-record index bytes (a .n) (omega arith) _ (f .result) (f .ensures) (omega arith) (length (a .out .now)) _ _ _ (omega arith) (omega arith) e (c .before .before .before .copy-in .ensures) (c .value-at .ensures)
+    let f = c .before .before .before .before .before .before .before .before .before .fetch-from in
+    let clear = c .before .before .before .before .before .before .before .before .before .before .before .before .before .before .before .before .before .before .before .before .before .clear in
+    list-record index bytes (a .n) (omega arith) _ _ (f .result) (f .ensures) (omega arith) (length (a .out .now)) _ _ _ (omega arith) (omega (arith, clear .kept .0)) (clear .ensures) (c .before .before .before .copy-in .ensures) (c .value-at .ensures)
 
 same-length-5 : tie.Need-same-length-5
 same-length-5 c = search needs
@@ -140,10 +140,10 @@ list-spec =
     enum-known-count
     same-length
     returns
-    mul-fetch
-    array-read-fetch
-    slice-aggregate-fetch
-    fetch-requires
+    mul-fetch-from
+    array-read-fetch-from
+    slice-aggregate-fetch-from
+    fetch-from-requires
     same-length-2
     returns-2
     same-length-3

@@ -1,21 +1,25 @@
-use Prim.Native.Nat.{_-_, _≤_}
 use borrow.Author.Needs.{needs}
+use Prim.Native.Nat.{_-_, _≤_}
 use mathlib.Core.Path.{_≡_}
 use native.Mathlib.Omega.{arith}
 use lib.ListN.{length}
-use Rattle.page.proofs.Tools.{bytes-of}
+use Rattle.row.specs.Row.{Row}
+use Rattle.row.specs.Memory.{Remembers}
+use Rattle.row.proofs.Memories.{fresh-zeros}
 use Rattle.listing.proofs.Lines.{LinesSoFar, lines-begin, lines-end, lines-more, lines-short}
 use Rattle.listing.proofs.text.add_lines.Statement.{statement}
 use Rattle.listing.proofs.text.add_lines.Tie as tie
 
 abbrev Inv-loop : tie.InvT-loop
-Inv-loop out₀ at s index count next₀ i₀ out next i = (i ≤ count) × (length out ≡ length out₀) × LinesSoFar s index count out₀ at out next i
+Inv-loop out₀ at s index count keys₀ notes₀ next₀ i₀ out keys notes next i = (i ≤ count) × (length out ≡ length out₀) × (length keys ≡ 16384) × (length notes ≡ 64) × Row s s index count × Remembers s s keys notes × LinesSoFar s index out₀ at out next i
 
 abbrev μ-loop : tie.MeasureT-loop
-μ-loop out₀ at s index count next₀ i₀ out next i = count - i
+μ-loop out₀ at s index count keys₀ notes₀ next₀ i₀ out keys notes next i = count - i
 
 loop-holds : tie.Need-loop-holds Inv-loop μ-loop
-loop-holds c = (search needs, search needs, lines-begin)
+loop-holds c =
+    let a = c .before .before .before .args in
+    (search needs, search needs, search needs, search needs, search needs, fresh-zeros (a .s .now) (a .s .now) _ 64 (search needs), lines-begin (a .s .now) (a .index .now) (a .out .now) (a .at))
 
 mul-add-line : tie.Need-mul-add-line Inv-loop μ-loop
 mul-add-line c = search needs
@@ -23,8 +27,16 @@ mul-add-line c = search needs
 shared-slice-read-add-line : tie.Need-shared-slice-read-add-line Inv-loop μ-loop
 shared-slice-read-add-line c = search needs
 
+slice-aggregate-add-line : tie.Need-slice-aggregate-add-line Inv-loop μ-loop
+slice-aggregate-add-line c = search needs
+
+slice-aggregate-add-line-2 : tie.Need-slice-aggregate-add-line-2 Inv-loop μ-loop
+slice-aggregate-add-line-2 c = search needs
+
 add-line-requires : tie.Need-add-line-requires Inv-loop μ-loop
-add-line-requires c κs = search needs
+add-line-requires c κs =
+    let l = c .before .before .before .before .before .loop in
+    (l .inv .4 .first, l .inv .4 .stands (l .i) (c .before .before .before .before .loop-test .taken), l .inv .5, l .inv .3)
 
 enum-known-past : tie.Need-enum-known-past Inv-loop μ-loop
 enum-known-past c = search needs
@@ -37,10 +49,8 @@ same-length c = search needs
 
 returns : tie.Need-returns Inv-loop μ-loop
 returns c =
-    let a = c .before .before .before .before .before .before .before .before .before .before .before .before .args in
-    let l = c .before .before .before .before .before .before .before .before .loop in
-    let bytes = bytes-of (a .s .now) (λ i h. omega (arith, c .before .before .before .before .before .before .before .before .before .before .shared-slice-known .given i)) in
-    lines-short (l .inv .2) bytes (omega arith) (omega arith) (c .before .before .before .before .add-line .ensures) (c .enum-told .given .1)
+    let l = c .before .before .before .before .before .before .before .before .before .before .before .before .loop in
+    lines-short _ _ _ _ _ _ _ (l .inv .6) _ (l .inv .0) (c .before .before .before .before .before .before .before .before .before .before .before .loop-test .taken) (l .inv .4 .room) _ _ _ _ (c .before .before .before .before .before .before .add-line .ensures) (c .enum-told .given .1)
 
 add-i : tie.Need-add-i Inv-loop μ-loop
 add-i c = search needs
@@ -50,10 +60,8 @@ loop-less c = search needs
 
 loop-again : tie.Need-loop-again Inv-loop μ-loop
 loop-again c =
-    let a = c .before .before .before .before .before .before .before .before .before .before .before .before .before .args in
-    let l = c .before .before .before .before .before .before .before .before .before .loop in
-    let bytes = bytes-of (a .s .now) (λ i h. omega (arith, c .before .before .before .before .before .before .before .before .before .before .before .shared-slice-known .given i)) in
-    (search needs, search needs, lines-more (l .inv .2) bytes (omega arith) (omega arith) (c .before .before .before .before .before .add-line .ensures) (c .before .past .given .1))
+    let l = c .before .before .before .before .before .before .before .before .before .before .before .before .before .loop in
+    (search needs, search needs, search needs, search needs, search needs, c .before .before .before .before .before .before .before .add-line .ensures .remembers, lines-more _ _ _ _ _ _ _ (l .inv .6) _ (l .inv .0) (c .before .before .before .before .before .before .before .before .before .before .before .before .loop-test .taken) (l .inv .4 .room) _ _ _ _ (c .before .before .before .before .before .before .before .add-line .ensures) _ (c .before .past .given .1))
 
 same-length-2 : tie.Need-same-length-2 Inv-loop μ-loop
 same-length-2 c = search needs
@@ -61,7 +69,7 @@ same-length-2 c = search needs
 returns-2 : tie.Need-returns-2 Inv-loop μ-loop
 returns-2 c =
     let l = c .before .loop in
-    lines-end (l .inv .2) (omega arith)
+    lines-end _ _ _ _ _ _ _ (l .inv .6) _ (l .inv .0) (omega arith)
 
 pub add-lines-spec : {M : Type 1} → statement M
 add-lines-spec =
@@ -72,6 +80,8 @@ add-lines-spec =
     loop-holds
     mul-add-line
     shared-slice-read-add-line
+    slice-aggregate-add-line
+    slice-aggregate-add-line-2
     add-line-requires
     enum-known-past
     enum-told

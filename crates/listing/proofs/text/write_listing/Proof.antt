@@ -2,7 +2,7 @@ use borrow.Author.Needs.{needs}
 use native.Mathlib.Omega.{arith}
 use Rattle.page.proofs.Tools.{bytes-of}
 use Rattle.register.proofs.Verdicts.{accepted-index, judged-refused, accepted-few}
-use Rattle.listing.proofs.Verdicts.{wrote-too-long, wrote-refused, wrote-records, wrote-short}
+use Rattle.listing.proofs.Verdicts.{index-row, wrote-too-long, wrote-refused, wrote-records, wrote-short}
 use Rattle.listing.proofs.text.write_listing.Statement.{statement}
 use Rattle.listing.proofs.text.write_listing.Tie as tie
 
@@ -46,8 +46,9 @@ add-lines-requires c κs =
     let a = c .before .before .before .before .before .before .before .before .before .before .before .before .before .before .before .before .before .before .before .args in
     let j = c .before .before .before .before .before .before .before .before .before .before .before .before .before .before .judge in
     let index = accepted-index (a .s .now) _ (j .result) (j .ensures) (c .before .before .before .before .before .before .before .before .before .before .before .count .given .1) in
-    let few = accepted-few (bytes-of (a .s .now) (λ i h. omega (arith, c .before .before .before .before .before .before .before .before .before .before .before .before .before .before .before .before .before .before .shared-slice-known .given i))) index in
-    omega arith
+    let bytes = bytes-of (a .s .now) (λ i h. omega (arith, c .before .before .before .before .before .before .before .before .before .before .before .before .before .before .before .before .before .before .shared-slice-known .given i)) in
+    let few = accepted-few bytes index in
+    index-row bytes index (omega arith)
 
 enum-told : tie.Need-enum-told
 enum-told c = search needs
@@ -72,7 +73,9 @@ returns-2 c =
     let a = c .before .before .before .before .before .before .before .before .before .before .before .before .before .before .before .before .before .before .before .before .before .before .args in
     let j = c .before .before .before .before .before .before .before .before .before .before .before .before .before .before .before .before .before .judge in
     let index = accepted-index (a .s .now) _ (j .result) (j .ensures) (c .before .before .before .before .before .before .before .before .before .before .before .before .before .before .count .given .1) in
-    wrote-records (omega arith) index (c .before .before .before .before .before .before .before .before .before .before .add-first-line2 .ensures) (c .before .before .before .before .before .before .at .given .1) (c .before .before .add-lines .ensures)
+    let bytes = bytes-of (a .s .now) (λ i h. omega (arith, c .before .before .before .before .before .before .before .before .before .before .before .before .before .before .before .before .before .before .before .before .before .shared-slice-known .given i)) in
+    let few = accepted-few bytes index in
+    wrote-records (omega arith) index (c .before .before .before .before .before .before .before .before .before .before .add-first-line2 .ensures) bytes (omega arith) (c .before .before .before .before .before .before .at .given .1) (c .before .before .add-lines .ensures)
 
 same-length-3 : tie.Need-same-length-3
 same-length-3 c = search needs

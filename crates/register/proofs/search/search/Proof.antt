@@ -28,17 +28,17 @@ sub-middle c = search needs
 add-middle : tie.Need-add-middle Inv-loop μ-loop
 add-middle c = search needs
 
-mul-fetch : tie.Need-mul-fetch Inv-loop μ-loop
-mul-fetch c = search needs
+mul-fetch-from : tie.Need-mul-fetch-from Inv-loop μ-loop
+mul-fetch-from c = search needs
 
-shared-slice-read-fetch : tie.Need-shared-slice-read-fetch Inv-loop μ-loop
-shared-slice-read-fetch c = search needs
+shared-slice-read-fetch-from : tie.Need-shared-slice-read-fetch-from Inv-loop μ-loop
+shared-slice-read-fetch-from c = search needs
 
-slice-aggregate-fetch : tie.Need-slice-aggregate-fetch Inv-loop μ-loop
-slice-aggregate-fetch c = search needs
+slice-aggregate-fetch-from : tie.Need-slice-aggregate-fetch-from Inv-loop μ-loop
+slice-aggregate-fetch-from c = search needs
 
-fetch-requires : tie.Need-fetch-requires Inv-loop μ-loop
-fetch-requires c κs = search needs
+fetch-from-requires : tie.Need-fetch-from-requires Inv-loop μ-loop
+fetch-from-requires c κs = search needs
 
 returns : tie.Need-returns Inv-loop μ-loop
 returns c = search (needs, search-over)
@@ -65,7 +65,7 @@ loop-again : tie.Need-loop-again Inv-loop μ-loop
 loop-again c =
     let l = c .before .before .before .before .before .before .before .before .before .before .loop in
     let narrowed = search-above _ _ _ _ _ _ (l .inv .5) (l .inv .1) (l .inv .4) (l .inv .2)
-    (c .before .before .before .before .before .before .before .before .before .loop-test .taken) _ _ (c .before .before .before .before .before .before .fetch .ensures)
+    (c .before .before .before .before .before .before .before .before .before .loop-test .taken) _ _ _ (c .before .before .before .before .before .before .fetch-from .ensures)
     (search needs) _ (c .before .before .compare .ensures) (search needs) in
     (search needs, search needs, search needs, search needs, search needs, narrowed)
 
@@ -76,7 +76,7 @@ returns-2 : tie.Need-returns-2 Inv-loop μ-loop
 returns-2 c =
     let l = c .before .before .before .before .before .before .before .before .before .before .loop in
     search-meets _ _ _ _ _ _ (l .inv .5) (l .inv .1) (l .inv .4) (l .inv .2)
-    (c .before .before .before .before .before .before .before .before .before .loop-test .taken) _ _ (c .before .before .before .before .before .before .fetch .ensures)
+    (c .before .before .before .before .before .before .before .before .before .loop-test .taken) _ _ _ (c .before .before .before .before .before .before .fetch-from .ensures)
     (search needs) _ (c .before .before .compare .ensures) (search needs)
 
 enum-told-3 : tie.Need-enum-told-3 Inv-loop μ-loop
@@ -89,7 +89,7 @@ loop-again-2 : tie.Need-loop-again-2 Inv-loop μ-loop
 loop-again-2 c =
     let l = c .before .before .before .before .before .before .before .before .before .before .loop in
     let narrowed = search-below _ _ _ _ _ _ (l .inv .5) (l .inv .1) (l .inv .4) (l .inv .2)
-    (c .before .before .before .before .before .before .before .before .before .loop-test .taken) _ _ (c .before .before .before .before .before .before .fetch .ensures)
+    (c .before .before .before .before .before .before .before .before .before .loop-test .taken) _ _ _ (c .before .before .before .before .before .before .fetch-from .ensures)
     (search needs) _ (c .before .before .compare .ensures) (search needs) in
     (search needs, search needs, search needs, search needs, search needs, narrowed)
 
@@ -105,10 +105,10 @@ search-spec =
     loop-holds
     sub-middle
     add-middle
-    mul-fetch
-    shared-slice-read-fetch
-    slice-aggregate-fetch
-    fetch-requires
+    mul-fetch-from
+    shared-slice-read-fetch-from
+    slice-aggregate-fetch-from
+    fetch-from-requires
     returns
     array-share-prefix-buffer
     slice-aggregate-compare

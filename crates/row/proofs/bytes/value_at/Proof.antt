@@ -3,9 +3,9 @@ use Prim.Native.Nat.{_+_, _-_, _≤_}
 use mathlib.Core.Path.{_≡_, refl}
 use native.Mathlib.Omega.{arith}
 use lib.ListN.{length, length-set}
-use Rattle.register.proofs.Outputs.{CopiedSoFar, copied-all, copied-more}
-use Rattle.register.proofs.bytes.value_at.Statement.{statement}
-use Rattle.register.proofs.bytes.value_at.Tie as tie
+use Rattle.row.proofs.Copying.{CopiedSoFar, copied-all, copied-more}
+use Rattle.row.proofs.bytes.value_at.Statement.{statement}
+use Rattle.row.proofs.bytes.value_at.Tie as tie
 
 abbrev Inv-loop : tie.InvT-loop
 Inv-loop s at value₀ i₀ value i = (i ≤ 32) × (length value ≡ 32) × (at + 32 ≤ length s) × CopiedSoFar s at value i

@@ -1,0 +1,4 @@
+pub mod Copying
+pub mod Ways
+pub mod Rows
+pub mod Memories

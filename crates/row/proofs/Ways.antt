@@ -1,0 +1,109 @@
+-- The way to the entry at a word's places, from the start of its page or from a key held, and the key that the buffer holds on it.
+use Prim.Native.Nat.{ℕ, _-_, _≤_, _<_}
+use mathlib.Core.Path.{_≡_, sym, subst, _∙_}
+use mathlib.Core.List.{List}
+use native.Mathlib.Omega.{arith}
+use lib.ListN.{length, drop}
+use Rattle.page.specs.Place.{EntryHere, EntryIs, NumberIs, pageStart, Reads, stopped}
+use Rattle.page.specs.Page.{entry as entryReader}
+use Rattle.page.specs.declared.reading.Stop.{Stop}
+use Rattle.page.specs.declared.reading.EntryAt.{EntryAt}
+use Rattle.page.specs.declared.reading.EntryRead.{EntryRead}
+use Rattle.page.specs.declared.reading.EntryRead.the-variants.{Entry, EntryStop}
+use Rattle.page.specs.declared.reading.NumberRead.{NumberRead}
+use Rattle.page.specs.declared.reading.NumberRead.the-variants.{Number, NumberStop}
+use Rattle.index.specs.Slot.{Slot}
+use Rattle.index.specs.Buffer.{HoldsKey, Extended}
+use Rattle.index.specs.Walk.{pageIn, entryIn}
+use Rattle.index.specs.Standing.{SlotAt}
+use Rattle.index.proofs.Buffers.{holds-none}
+use Rattle.index.proofs.Standing.{same-end, read-not-stopped, steps-ahead, steps-done, steps-next, steps-read, steps-split, slot-steps, slot-key, slot-value}
+use Rattle.row.specs.Memory.{sizeIn, NoteHolds}
+use Rattle.row.specs.Fetch.{FetchSays, OnTheWay, StartSays}
+use Rattle.row.specs.declared.fetch.Found.{Found}
+use Rattle.row.specs.declared.fetch.Start.{Start}
+use Rattle.row.specs.declared.fetch.Start.the-variants.{At, Nowhere}
+
+-- ---- where the way begins
+module _ (s : List ℕ) (page : ℕ) (m : NumberRead) (v : NumberIs pageStart s page m) where
+  -- at the first entry of the page
+  pub from-first : (n first : ℕ) → m ≡ Number n first → (entry note : ℕ) → StartSays s page entry note (At first 0)
+  unfolding OnTheWay
+  from-first n first q entry note buffer x w p e h =
+      let start : Reads pageStart s (x .page) n first = subst (λ (i : ℕ). Reads pageStart s i n first) p (subst (NumberIs pageStart s page) q v) in
+      record { key = _; holds = holds-none buffer; steps = slot-steps w start }
+
+  -- no page begins there
+  pub from-nowhere : (stop : Stop) → m ≡ NumberStop stop → (entry note : ℕ) → StartSays s page entry note Nowhere
+  from-nowhere stop q entry note x w p =
+      let at-page : pageStart (drop (x .page) s) ≡ stopped stop =
+      subst (λ (i : ℕ). pageStart (drop i s) ≡ stopped stop) p (subst (NumberIs pageStart s page) q v) in
+      read-not-stopped (w .start) stop at-page
+
+-- after the key that the note is about
+pub from-note : (s : List ℕ) (page entry note : ℕ) → 0 < entryIn note → pageIn note ≡ page → entryIn note ≤ entry
+    → StartSays s page entry note (At (entryIn note) (sizeIn note))
+unfolding OnTheWay NoteHolds
+from-note s page entry note some same-page before buffer x w p e h =
+    let start : Reads pageStart s (pageIn note) (w .count) (w .first) = subst (λ (i : ℕ). Reads pageStart s i (w .count) (w .first)) (sym (same-page ∙ p)) (w .start) in
+    let y = h some (w .count) (w .first) start in
+    record { key = y .key; holds = y .holds; steps = steps-split (y .steps) (w .steps) (omega arith) }
+
+-- ---- what a start tells
+module _ (s : List ℕ) (page entry note : ℕ) (m : Start) (v : StartSays s page entry note m) where
+  pub way-begins : (first size : ℕ) → m ≡ At first size → (buffer : List ℕ) → OnTheWay s page entry note buffer first buffer size
+  way-begins first size q = subst (StartSays s page entry note) q v
+
+  pub no-way : m ≡ Nowhere → (word : ℕ) → page ≡ pageIn word → (buffer buffer′ : List ℕ) (r : Found) → FetchSays s word buffer note buffer′ r
+  unfolding FetchSays
+  no-way q word same-page buffer buffer′ r x w p e h = absurd (subst (StartSays s page entry note) q v x w (same-page ∙ p))
+
+-- ---- a turn of the loop
+module _ (s : List ℕ) (word page entry note at : ℕ) (buffer₀ buffer : List ℕ) (size : ℕ) (same-page : page ≡ pageIn word) (same-entry : entry ≡ entryIn word)
+    (u : OnTheWay s page entry note buffer₀ at buffer size) (m : EntryRead) (v : EntryIs s at m) where
+  pub nearer : (e : EntryAt) → m ≡ Entry e → length s - e .end < length s - at
+  nearer e q =
+      let here : EntryHere s at e = subst (EntryIs s at) q v in
+      omega (arith, here .whole .ahead, here .whole .within)
+
+  -- before the slot's entry
+  module _ (h : at < entry) where
+    pub way-on : (e : EntryAt) → m ≡ Entry e → (buffer′ : List ℕ) (size′ : ℕ)
+        → Extended buffer size s (e .shares) (e .remainder) (e .size) buffer′ size′ → OnTheWay s page entry note buffer₀ (e .end) buffer′ size′
+    unfolding OnTheWay Extended
+    way-on e q buffer′ size′ z x w p k held =
+        let here : EntryHere s at e = subst (EntryIs s at) q v in
+        let y = u x w p k held in
+        record { key = _; holds = z (y .key) (y .holds); steps = steps-next (y .steps) (omega (arith, k)) (here .whole) }
+
+    pub way-stops : (stop : Stop) → m ≡ EntryStop stop → (buffer′ : List ℕ) (r : Found) → FetchSays s word buffer₀ note buffer′ r
+    unfolding OnTheWay FetchSays
+    way-stops stop q buffer′ r x w p k held =
+        absurd (steps-read (u x w (same-page ∙ p) (same-entry ∙ k) held .steps) (omega (arith, same-entry, k)) stop (subst (EntryIs s at) q v))
+
+  -- at the slot's entry
+  module _ (h : entry ≤ at) where
+    arrived : (x : Slot) (w : SlotAt s x) → pageIn word ≡ x .page → entryIn word ≡ x .entry → NoteHolds s note buffer₀ → at ≡ x .entry
+    unfolding OnTheWay
+    arrived x w p k held = omega (arith, same-entry, k, steps-ahead (u x w (same-page ∙ p) (same-entry ∙ k) held .steps))
+
+    pub way-ends : (e : EntryAt) → m ≡ Entry e → (buffer′ : List ℕ) (size′ : ℕ) → Extended buffer size s (e .shares) (e .remainder) (e .size) buffer′ size′
+        → FetchSays s word buffer₀ note buffer′ (record { size = size′; value = e .value; next = e .end })
+    unfolding OnTheWay Extended FetchSays
+    way-ends e q buffer′ size′ z x w p k held =
+        let y = u x w (same-page ∙ p) (same-entry ∙ k) held in
+        let there : at ≡ x .entry = arrived x w p k held in
+        let here : EntryHere s (x .entry) e = subst (λ (i : ℕ). EntryHere s i e) there (subst (EntryIs s at) q v) in
+        let before : y .key ≡ w .before = steps-done (y .steps) (omega (arith, there)) in
+        record {
+          holds = subst (HoldsKey buffer′ size′) (slot-key w here) (z (w .before) (subst (HoldsKey buffer size) before (y .holds)));
+          value = slot-value w here;
+          next = same-end (here .whole) (w .reads);
+        }
+
+    pub way-breaks : (stop : Stop) → m ≡ EntryStop stop → (buffer′ : List ℕ) (r : Found) → FetchSays s word buffer₀ note buffer′ r
+    unfolding FetchSays
+    way-breaks stop q buffer′ r x w p k held =
+        let at-entry : entryReader (drop (x .entry) s) ≡ stopped stop =
+        subst (λ (i : ℕ). entryReader (drop i s) ≡ stopped stop) (arrived x w p k held) (subst (EntryIs s at) q v) in
+        absurd (read-not-stopped (w .reads) stop at-entry)

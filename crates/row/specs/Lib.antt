@@ -1,0 +1,4 @@
+pub mod Row
+pub mod Memory
+pub mod Notes
+pub mod Fetch

@@ -1,0 +1,70 @@
+// A record of a row, from where its page was left.
+use crate::fetch::fetch_of;
+ghost use Prim.Native.Nat.{_+_, _≤_, _<_, _^_};
+ghost use lib.ListN.{length};
+ghost use Rattle.row.specs.Row.{Stands};
+ghost use Rattle.row.specs.Memory.{Remembers, Recalls};
+ghost use Rattle.row.specs.Notes.{NoteFor, NoteOf};
+
+// Where a key stands in the memory, its length, and the place of its value in its register.
+pub struct Recalled {
+    pub from: usize,
+    pub size: usize,
+    pub value: usize,
+}
+
+// Of each register a key for each layer, so that a page goes on where it was left; the layers from 31 on, which are rare, share one.
+fn slot_of(word: u64) -> usize
+    ensures { λ r. ⌜ r < 64 ⌝ }
+{
+    let layer = (word / 0x1_0000_0000_0000 % 0x100) as usize;
+    let side = (word / 0x1000_0000_0000_0000 % 2) as usize;
+    if layer < 31 {
+        return side * 32 + layer;
+    }
+    side * 32 + 31
+}
+
+// A note on a key of the register that the word belongs to; on another register's it is none.
+fn note_for(word: u64, note: u64) -> u64
+    ensures { λ r. ⌜ NoteFor word note r ⌝ }
+{
+    if note / 0x1000_0000_0000_0000 == word / 0x1000_0000_0000_0000 {
+        return note;
+    }
+    0
+}
+
+// The note on the key of a word, of this length, whose entry ends at next.
+fn note_of(word: u64, next: usize, size: usize) -> u64
+    requires { ⌜ (next < 2 ^ 24) × (size ≤ 256) ⌝ }
+    ensures { λ r. ⌜ NoteOf word next size r ⌝ }
+{
+    word % 0x100_0000
+        + next as u64 * 0x100_0000
+        + size as u64 * 0x1_0000_0000_0000
+        + word / 0x1000_0000_0000_0000 * 0x1000_0000_0000_0000
+}
+
+// The record of a word of a row. The slots from base on are used: a pass over a row has its own.
+pub fn recall(
+    s: &[u8],
+    u: &[u8],
+    word: u64,
+    base: usize,
+    keys: &mut [u8],
+    notes: &mut [u64],
+) -> Recalled
+    requires { ⌜ (length (now s) < 2 ^ 24) × (length (now u) < 2 ^ 24) × Stands (now s) (now u) word × Remembers (now s) (now u) (now keys) (now notes) × (base + 64 ≤ length (now notes)) × (length (now notes) ≤ 256) ⌝ }
+    ensures { λ r. ⌜ Recalls (now (s .entry)) (now (u .entry)) word (now (keys .exit)) (now (notes .exit)) r ⌝ }
+{
+    let slot = base + slot_of(word);
+    let from = 256 * slot;
+    let to = from + 256;
+    let note = note_for(word, notes[slot]);
+    let found = fetch_of(s, u, word, &mut keys[from..to], note);
+    let size = found.size;
+    let value = found.value;
+    notes[slot] = note_of(word, found.next, size);
+    Recalled { from, size, value }
+}
