@@ -39,7 +39,7 @@ bytes-within s at l rest e h =
     omega (arith, ap length e, length-drop at s, length-append l rest)
 
 -- a reader that reads them back
-reads-there : {A : Type 0} (p : Reader A) (a : A) (s : List ℕ) (at : ℕ) (l rest : List ℕ) → p (l ++ rest) ≡ read a rest → 1 ≤ length l
+pub reads-there : {A : Type 0} (p : Reader A) (a : A) (s : List ℕ) (at : ℕ) (l rest : List ℕ) → p (l ++ rest) ≡ read a rest → 1 ≤ length l
     → drop at s ≡ l ++ rest → Reads p s at a (at + length l)
 reads-there p a s at l rest q h e = record {
   reads = ap p e ∙ q ∙ ap (read a) (sym (after-bytes s at l rest e));
@@ -60,14 +60,14 @@ unfolding entryBytes linkBytes
 entry-parts e = simp append-assoc
 
 module _ (s : List ℕ) (at : ℕ) (e : RawEntry) (rest : List ℕ) (good : GoodEntry e) (q : drop at s ≡ entryBytes e ++ rest) where
-  entry-there : Reads entryReader s at e (at + length (entryBytes e))
+  pub entry-there : Reads entryReader s at e (at + length (entryBytes e))
   unfolding entryBytes
   entry-there = reads-there entryReader e s at (entryBytes e) rest (entry-reads e rest good) (omega arith) q
 
-  size-of-entry : length (entryBytes e) ≡ length (entryHead e) + 32
+  pub size-of-entry : length (entryBytes e) ≡ length (entryHead e) + 32
   size-of-entry = ap length (entry-parts e) ∙ omega (arith, length-append (entryHead e) (e .val), good .val)
 
-  value-there : take 32 (drop (at + length (entryBytes e) - 32) s) ≡ e .val
+  pub value-there : take 32 (drop (at + length (entryBytes e) - 32) s) ≡ e .val
   value-there =
       let parts : drop at s ≡ entryHead e ++ (e .val ++ rest) = q ∙ rw (entry-parts e) (append-assoc (entryHead e) (e .val) rest) in
       let n : at + length (entryBytes e) - 32 ≡ at + length (entryHead e) = omega (arith, size-of-entry) in

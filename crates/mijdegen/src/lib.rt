@@ -4,7 +4,7 @@ ghost use Rattle.answer.specs.Answer.{encoded};
 ghost use Rattle.sha256.specs.Digest.{digestAnswer, digestOutput};
 ghost use Rattle.key.specs.Layer.{layerAnswer};
 ghost use lib.ListN.{length};
-ghost use Rattle.register.specs.Outcome.{checkAnswer, lookupAnswer, listOutcome, listAnswer, listKey, listValue};
+ghost use Rattle.register.specs.Outcome.{checkAnswer, lookupAnswer, listOutcome, listAnswer, listKey, listValue, putOutcome, joinOutcome, removeOutcome, mergeOutcome, answerOf, outputOf};
 
 #[no_mangle]
 pub extern "C" fn mijdegen_digest(input: &[u8], out: &mut [u8; 32]) -> u64
@@ -42,4 +42,36 @@ pub extern "C" fn mijdegen_list(lent: &[u8], n: u64, out: &mut [u8], value: &mut
     ensures value { λ _. ⌜ now (value .exit) ≡ listValue (listOutcome (now (lent .entry)) n (length (now (out .entry)))) ⌝ }
 {
     answer::encode(register::list(lent, n, out, value))
+}
+
+#[no_mangle]
+pub extern "C" fn mijdegen_put(lent: &[u8], sought: &[u8], value: &[u8], out: &mut [u8]) -> u64
+    ensures answer { λ r. ⌜ r ≡ encoded (answerOf (putOutcome (now (lent .entry)) (now (sought .entry)) (now (value .entry)) (length (now (out .entry))))) ⌝ }
+    ensures output { λ _. ⌜ now (out .exit) ≡ outputOf (putOutcome (now (lent .entry)) (now (sought .entry)) (now (value .entry)) (length (now (out .entry)))) (length (now (out .entry))) ⌝ }
+{
+    answer::encode(register::put(lent, sought, value, out))
+}
+
+#[no_mangle]
+pub extern "C" fn mijdegen_join(lent: &[u8], sought: &[u8], value: &[u8], out: &mut [u8]) -> u64
+    ensures answer { λ r. ⌜ r ≡ encoded (answerOf (joinOutcome (now (lent .entry)) (now (sought .entry)) (now (value .entry)) (length (now (out .entry))))) ⌝ }
+    ensures output { λ _. ⌜ now (out .exit) ≡ outputOf (joinOutcome (now (lent .entry)) (now (sought .entry)) (now (value .entry)) (length (now (out .entry)))) (length (now (out .entry))) ⌝ }
+{
+    answer::encode(register::join(lent, sought, value, out))
+}
+
+#[no_mangle]
+pub extern "C" fn mijdegen_remove(lent: &[u8], sought: &[u8], out: &mut [u8]) -> u64
+    ensures answer { λ r. ⌜ r ≡ encoded (answerOf (removeOutcome (now (lent .entry)) (now (sought .entry)) (length (now (out .entry))))) ⌝ }
+    ensures output { λ _. ⌜ now (out .exit) ≡ outputOf (removeOutcome (now (lent .entry)) (now (sought .entry)) (length (now (out .entry)))) (length (now (out .entry))) ⌝ }
+{
+    answer::encode(register::remove(lent, sought, out))
+}
+
+#[no_mangle]
+pub extern "C" fn mijdegen_merge(first: &[u8], second: &[u8], out: &mut [u8]) -> u64
+    ensures answer { λ r. ⌜ r ≡ encoded (answerOf (mergeOutcome (now (first .entry)) (now (second .entry)) (length (now (out .entry))))) ⌝ }
+    ensures output { λ _. ⌜ now (out .exit) ≡ outputOf (mergeOutcome (now (first .entry)) (now (second .entry)) (length (now (out .entry)))) (length (now (out .entry))) ⌝ }
+{
+    answer::encode(register::merge(first, second, out))
 }

@@ -3,19 +3,17 @@ use Prim.Native.Nat.{ℕ, _+_, _-_, _≤_, _<_}
 use mathlib.Core.Path.{_≡_, refl, sym, ap, _∙_}
 use mathlib.Core.Bool.{Bool, true, false}
 use mathlib.Core.Option.{Option, none, some}
-use mathlib.Core.List.{List, [], _++_, append-assoc}
+use mathlib.Core.List.{List, _++_, append-assoc}
 use native.Mathlib.Omega.{arith}
 use lib.ListN.{length, drop, length-append, length-drop}
 use lib.Dec.{ltb}
-use lib.Seq.{length-take-le}
 use borrow.Table.Steps.{cases}
 use Rattle.key.specs.Key.{shared}
 use Rattle.key.proofs.Laws.{shared-le-right}
 use Rattle.page.specs.Reading.{concat}
 use Rattle.page.specs.Number.{plainNumber, array, numberBytes}
 use Rattle.page.specs.Page.{linkBytes, gapBytes, entryBytes, RawPage, pageBytes}
-use Rattle.page.specs.Front.{keyOf, Held, noKey, numberLength, linkIf, gapLength, entryStartBytes, entryStartLength, entryEndBytes, entryEndLength, entryAfter, entryLength, pageStartBytes, pageEndBytes}
-use Rattle.page.specs.declared.writing.Key.{Key}
+use Rattle.page.specs.Front.{numberLength, linkIf, gapLength, entryStartBytes, entryStartLength, entryEndBytes, entryEndLength, entryAfter, entryLength, pageStartBytes, pageEndBytes}
 use Rattle.page.proofs.Numbers.{bytes-first, bytes-one, bytes-two}
 
 -- ---- numbers
@@ -95,16 +93,10 @@ unfolding pageBytes pageStartBytes pageEndBytes
 page-parts p = simp append-assoc
 
 -- ---- keys as the code holds them
-pub no-key : (k : Key) → k ≡ noKey → Held k × (keyOf k ≡ [])
-no-key k e = rw e (record { room = refl; fits = omega arith }, refl)
+pub shares-fit : (previous key : List ℕ) (shares : ℕ) → shares ≡ shared previous key → shares ≤ length key
+shares-fit previous key shares e = omega (arith, shared-le-right previous key)
 
-pub key-size : (k : Key) → Held k → k .len ≡ length (keyOf k)
-key-size k h = let f : k .len ≤ length (k .bytes) = omega arith in sym (length-take-le (k .len) (k .bytes) f)
-
-pub shares-fit : (previous key : Key) (shares : ℕ) → Held key → shares ≡ shared (keyOf previous) (keyOf key) → shares ≤ key .len
-shares-fit previous key shares h e = omega (arith, shared-le-right (keyOf previous) (keyOf key), key-size key h)
-
-pub entry-size : (previous key : Key) (linked : Bool) (shares a b g : ℕ) → Held key → shares ≡ shared (keyOf previous) (keyOf key)
-    → a ≡ numberLength (key .len - shares) → b ≡ numberLength shares → g ≡ gapLength linked
-    → 3 + a + (key .len - shares) + 2 + b + 2 + g + 2 + 41 ≡ entryLength (keyOf previous) (keyOf key) linked
-entry-size previous key linked shares a b g h es ea eb eg = rw (ea, eb, eg, es, ← key-size key h) (omega arith)
+pub entry-size : (previous key : List ℕ) (linked : Bool) (shares a b g : ℕ) → shares ≡ shared previous key
+    → a ≡ numberLength (length key - shares) → b ≡ numberLength shares → g ≡ gapLength linked
+    → 3 + a + (length key - shares) + 2 + b + 2 + g + 2 + 41 ≡ entryLength previous key linked
+entry-size previous key linked shares a b g es ea eb eg = rw (ea, eb, eg, es) (omega arith)

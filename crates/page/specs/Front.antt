@@ -1,30 +1,16 @@
 -- What the writers write at the front of an output, and how many bytes that takes.
-use Prim.Native.Nat.{ℕ, _+_, _-_, _≤_}
-use mathlib.Core.Path.{_≡_}
+use Prim.Native.Nat.{ℕ, _+_, _-_}
 use mathlib.Core.Bool.{Bool, cond}
 use mathlib.Core.Option.{Option, none, some}
 use mathlib.Core.List.{List, [], _∷_, _++_}
-use lib.ListN.{length, take, drop, replicate}
+use lib.ListN.{length, drop}
 use Rattle.key.specs.Key.{shared}
 use Rattle.page.specs.Number.{plainNumber, byteString, array, numberBytes}
 use Rattle.page.specs.Page.{gapBytes, valueBytes, RawEntry}
-use Rattle.page.specs.declared.writing.Key.{Key}
 
 -- An output with these bytes written over its first ones.
 abbrev pub front : List ℕ → List ℕ → List ℕ
 front bytes out = bytes ++ drop (length bytes) out
-
--- A key as the code holds it: the first bytes of an array of 256.
-abbrev pub keyOf : Key → List ℕ
-keyOf k = take (k .len) (k .bytes)
-
-pub record Held (k : Key) : Type 0 where
-  pub room : length (k .bytes) ≡ 256
-  pub fits : k .len ≤ 256
-
--- The key before a page's first: no bytes.
-abbrev pub noKey : Key
-noKey = record { bytes = replicate 256 0; len = 0 }
 
 -- How many bytes a number takes, whatever it counts.
 unfoldable pub numberLength : ℕ → ℕ

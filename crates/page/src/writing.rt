@@ -15,26 +15,9 @@ ghost use mathlib.Core.Path.{_≡_};
 ghost use mathlib.Core.List.{_++_};
 ghost use Prim.Native.Nat.{_+_, _-_, _≤_, _<_};
 ghost use lib.ListN.{length, drop};
-ghost use Rattle.key.specs.Key.{shared};
 ghost use Rattle.page.specs.Number.{numberBytes};
 ghost use Rattle.page.specs.Page.{linkBytes, gapBytes, entryBytes};
-ghost use Rattle.page.specs.Front.{front, keyOf, Held, noKey, numberLength, linkIf, gapLength, entryStartBytes, entryStartLength, entryEndBytes, entryEndLength, entryLength, entryAfter, pageStartBytes, pageEndBytes};
-
-// A key: the first len of these bytes.
-pub struct Key {
-    pub bytes: [u8; 256],
-    pub len: usize,
-}
-
-// The key before a page's first: no bytes.
-pub fn no_key() -> Key
-    ensures { λ r. ⌜ r ≡ noKey ⌝ }
-{
-    Key {
-        bytes: [0u8; 256],
-        len: 0,
-    }
-}
+ghost use Rattle.page.specs.Front.{front, numberLength, linkIf, gapLength, entryStartBytes, entryStartLength, entryEndBytes, entryEndLength, entryLength, entryAfter, pageStartBytes, pageEndBytes};
 
 // Any bytes.
 fn write_bytes(out: &mut [u8], bytes: &[u8])
@@ -137,16 +120,14 @@ fn write_gap_after(out: &mut [u8], bytes: &[u8], linked: bool, digest: [u8; 32])
 }
 
 // The start of an entry: its key without the bytes that it shares with the key before.
-fn write_entry_start(out: &mut [u8], shares: usize, key: Key) -> usize
-    requires { ⌜ Held key × (shares ≤ key .len) × (entryStartLength shares (key .len - shares) ≤ length (now out)) ⌝ }
-    ensures output { λ _. ⌜ now (out .exit) ≡ front (entryStartBytes shares (drop shares (keyOf key))) (now (out .entry)) ⌝ }
-    ensures count { λ r. ⌜ r ≡ entryStartLength shares (key .len - shares) ⌝ }
+fn write_entry_start(out: &mut [u8], shares: usize, key: &[u8]) -> usize
+    requires { ⌜ (length (now key) ≤ 256) × (shares ≤ length (now key)) × (entryStartLength shares (length (now key) - shares) ≤ length (now out)) ⌝ }
+    ensures output { λ _. ⌜ now (out .exit) ≡ front (entryStartBytes shares (drop shares (now (key .entry)))) (now (out .entry)) ⌝ }
+    ensures count { λ r. ⌜ r ≡ entryStartLength shares (length (now (key .entry)) - shares) ⌝ }
 {
-    let bytes = key.bytes;
-    let len = key.len;
-    let size = len - shares;
+    let size = key.len() - shares;
     let at = write_number_after(out, &BEFORE_REMAINDER, BYTE_STRING, size);
-    write_bytes(&mut out[at..], &bytes[shares..len]);
+    write_bytes(&mut out[at..], &key[shares..]);
     let next = at + size;
     next + write_number_after(&mut out[next..], &BEFORE_SHARES, PLAIN_NUMBER, shares)
 }
@@ -164,42 +145,30 @@ fn write_entry_end(out: &mut [u8], linked: bool, link: [u8; 32], value: [u8; 32]
     next + 41
 }
 
-// The number of leading bytes that two keys share.
-fn shared_bytes(previous: Key, key: Key) -> usize
-    requires { ⌜ Held previous × Held key ⌝ }
-    ensures { λ r. ⌜ (r ≡ shared (keyOf previous) (keyOf key)) × (r ≤ key .len) ⌝ }
-{
-    let a = previous.bytes;
-    let n = previous.len;
-    let b = key.bytes;
-    let m = key.len;
-    key::order::shared_count(&a[..n], &b[..m])
-}
-
 // How many bytes the entry of a key after the previous one takes.
-pub fn entry_length(previous: Key, key: Key, linked: bool) -> usize
-    requires { ⌜ Held previous × Held key ⌝ }
-    ensures { λ r. ⌜ (r ≡ entryLength (keyOf previous) (keyOf key) linked) × (r ≤ 400) ⌝ }
+pub fn entry_length(previous: &[u8], key: &[u8], linked: bool) -> usize
+    requires { ⌜ length (now key) ≤ 256 ⌝ }
+    ensures { λ r. ⌜ (r ≡ entryLength (now (previous .entry)) (now (key .entry)) linked) × (r ≤ 400) ⌝ }
 {
-    let shares = shared_bytes(previous, key);
-    let size = key.len - shares;
+    let shares = key::order::shared_count(previous, key);
+    let size = key.len() - shares;
     3 + number_length(size) + size + 2 + number_length(shares) + 2 + gap_length(linked) + 2 + 41
 }
 
 // The entry of a key after the previous one.
 pub fn write_entry(
     out: &mut [u8],
-    previous: Key,
-    key: Key,
+    previous: &[u8],
+    key: &[u8],
     linked: bool,
     link: [u8; 32],
     value: [u8; 32],
 ) -> usize
-    requires { ⌜ Held previous × Held key × (entryLength (keyOf previous) (keyOf key) linked ≤ length (now out)) ⌝ }
-    ensures output { λ _. ⌜ now (out .exit) ≡ front (entryBytes (entryAfter (keyOf previous) (keyOf key) (linkIf linked link) value)) (now (out .entry)) ⌝ }
-    ensures count { λ r. ⌜ r ≡ entryLength (keyOf previous) (keyOf key) linked ⌝ }
+    requires { ⌜ (length (now key) ≤ 256) × (entryLength (now previous) (now key) linked ≤ length (now out)) ⌝ }
+    ensures output { λ _. ⌜ now (out .exit) ≡ front (entryBytes (entryAfter (now (previous .entry)) (now (key .entry)) (linkIf linked link) value)) (now (out .entry)) ⌝ }
+    ensures count { λ r. ⌜ r ≡ entryLength (now (previous .entry)) (now (key .entry)) linked ⌝ }
 {
-    let shares = shared_bytes(previous, key);
+    let shares = key::order::shared_count(previous, key);
     let at = write_entry_start(out, shares, key);
     at + write_entry_end(&mut out[at..], linked, link, value)
 }

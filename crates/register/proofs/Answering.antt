@@ -35,7 +35,7 @@ values-within : (s : List ℕ) (xs : List Slot) → All (SlotAt s) xs → All (�
 values-within s [] h = tt
 values-within s (x ∷ xs) h = (value-within (h .0), values-within s xs (h .1))
 
-none≢some : {p : ℕ} → none ≡ some p → ⊥
+pub none≢some : {p : ℕ} → none ≡ some p → ⊥
 none≢some e = let z : _≡_ {A = ℕ} 0 1 = cc in omega arith
 
 some-place : {p q : ℕ} → some p ≡ some q → p ≡ q
@@ -50,11 +50,11 @@ place-among P k (r ∷ rs) (q ∷ ps) p h e =
     cond-inv (less k (r .key)) (λ _ f. absurd (none≢some f))
     (λ _ f. cond-inv (less (r .key) k) (λ _ g. place-among P k rs ps p (h .1) g) (λ _ g. subst P (some-place g) (h .0)) f) e
 
-not-right : (b : Bool) → not b ≡ true → b ≡ false
+pub not-right : (b : Bool) → not b ≡ true → b ≡ false
 not-right true e = sym e
 not-right false e = refl
 
-not-wrong : (b : Bool) → not b ≡ false → b ≡ true
+pub not-wrong : (b : Bool) → not b ≡ false → b ≡ true
 not-wrong true e = refl
 not-wrong false e = sym e
 
@@ -80,10 +80,10 @@ module _ (s index : List ℕ) (m : Register) (w : RegisterSays s m index) where
     module _ (k : List ℕ) (r : Searched) (v : SearchSays s index count k r) where
       searched : placeFound r ≡ placeOf k (records (given .tree)) (places 0 (given .tree))
       unfolding SearchSays
-      searched = v (given .tree) (given .judged) (given .size) (given .indexed)
+      searched = v (given .tree) (given .judged) (given .size) (given .indexed) .0
 
-      pub place-fits : Bytes s → (place : ℕ) → r ≡ At place → place < 2 ^ 32
-      place-fits b place p =
+      pub place-fits : Bytes s → (position place : ℕ) → r ≡ At position place → place < 2 ^ 32
+      place-fits b position place p =
           let t : SpeltTree = given .tree in
           let a = accept.accepted-table s b t (given .judged) in
           let within : All (λ i. i + 32 ≤ length s) (places 0 t) =
@@ -96,9 +96,9 @@ module _ (s index : List ℕ) (m : Register) (w : RegisterSays s m index) where
         unfolding lookupAnswer lookupVerdict
         answer-place = rw (given .judged, ← e, not-wrong ok h) (ap answerPlace searched)
 
-        pub answer-found : (place : ℕ) → r ≡ At place → Done place ≡ lookupAnswer s k
+        pub answer-found : (position place : ℕ) → r ≡ At position place → Done place ≡ lookupAnswer s k
         unfolding answerPlace
-        answer-found place p = ap (λ (x : Searched). answerPlace (placeFound x)) (sym p) ∙ answer-place
+        answer-found position place p = ap (λ (x : Searched). answerPlace (placeFound x)) (sym p) ∙ answer-place
 
         pub answer-absent : r ≡ Absent → Refused KeyAbsent ≡ lookupAnswer s k
         unfolding answerPlace

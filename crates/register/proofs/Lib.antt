@@ -9,3 +9,9 @@ pub mod Verdicts
 pub mod Listings
 pub mod Searching
 pub mod Answering
+pub mod Weaving
+pub mod Choosing
+pub mod Turns
+pub mod WordLaws
+pub mod Writing
+pub mod Calls

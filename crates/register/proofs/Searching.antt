@@ -28,19 +28,14 @@ use Rattle.index.proofs.Buffers.{holds-whole}
 use Rattle.index.proofs.SlotLaws.{slots-length, slots-places, slot-record, slot-place}
 use Rattle.index.proofs.Standing.{accepted-slot-stands}
 use Rattle.register.specs.Outcome.{placeOf}
+use Rattle.row.specs.Row.{nothing}
 use Rattle.row.specs.Fetch.{Fetched, FetchSays}
 use Rattle.row.specs.declared.fetch.Found.{Found}
 use Rattle.row.proofs.Memories.{no-note}
-use Rattle.register.specs.Search.{SearchSays}
+use Rattle.register.specs.Search.{keyAt, SearchSays}
 use Rattle.register.specs.declared.search.Searched.the-variants.{At, Absent}
 
 -- ---- the keys of a row of records
-abbrev noRecord : Record
-noRecord = record { key = []; val = [] }
-
-abbrev pub keyAt : List Record → ℕ → List ℕ
-keyAt rs i = getD rs i noRecord .key
-
 rising-rest : (r : Record) (rs : List Record) → rising (r ∷ rs) ≡ true → rising rs ≡ true
 unfolding rising
 rising-rest r [] h = refl
@@ -116,7 +111,7 @@ module _ (s index : List ℕ) (count : ℕ) (k : List ℕ) where
     unfolding Narrowed SearchSays
     search-ends h g t a c x =
         let same : high ≡ low = omega arith in
-        sym (place-absent k (records t) (places 0 t) low (omega arith) (subst (Between k (records t) low) same (u t a c x)))
+        (sym (place-absent k (records t) (places 0 t) low (omega arith) (subst (Between k (records t) low) same (u t a c x))), tt)
 
     abbrev middle : ℕ
     middle = low + (high - low) / 2
@@ -143,7 +138,7 @@ module _ (s index : List ℕ) (count : ℕ) (k : List ℕ) where
         fetched = w slot (accepted-slot-stands s t bytes a middle there) (word .page) (word .entry) (no-note s buffer₀)
 
         same-key : keyOf slot ≡ keyAt (records t) middle
-        same-key = ap (λ (r : Record). r .key) (slot-record 0 0 t middle blank there noRecord)
+        same-key = ap (λ (r : Record). r .key) (slot-record 0 0 t middle blank there nothing)
 
         holds : HoldsKey buffer (found .size) (keyAt (records t) middle)
         holds = subst (HoldsKey buffer (found .size)) same-key (fetched .holds)
@@ -201,6 +196,8 @@ module _ (s index : List ℕ) (count : ℕ) (k : List ℕ) where
         unfolding Narrowed
         search-below q t a c x = narrow-high t a c x (order-greater (keyAt (records t) middle) k (rw (← key-held t a c x) (sym e ∙ q)))
 
-        pub search-meets : o ≡ Equal → SearchSays s index count k (At (found .value))
+        pub search-meets : o ≡ Equal → SearchSays s index count k (At middle (found .value))
         unfolding SearchSays
-        search-meets q t a c x = met t a c x (sym (key-held t a c x) ∙ order-equal (take (found .size) buffer) k (sym e ∙ q))
+        search-meets q t a c x =
+            let same = sym (key-held t a c x) ∙ order-equal (take (found .size) buffer) k (sym e ∙ q) in
+            (met t a c x same, (omega arith, same))

@@ -5,3 +5,4 @@ pub mod Plain
 pub mod Promises
 pub mod Listing
 pub mod Search
+pub mod Choice

@@ -1,11 +1,19 @@
 // The calls on registers.
 mod bytes; // bytes of outputs
+pub mod choose; // the records of a result
 pub mod search; // the place of a key's value
+pub mod words; // words of rows
+pub mod write; // what the writing calls write
 
 use crate::bytes::clear;
 use crate::bytes::copy_in;
 use crate::search::Searched;
 use crate::search::search;
+use crate::words::leave_out;
+use crate::words::single;
+use crate::words::to_second;
+use crate::write::refuse;
+use crate::write::write_chosen;
 use answer::Answer;
 use answer::Refusal;
 use index::Register;
@@ -13,9 +21,11 @@ use index::judge;
 use key::rule::is_lawful;
 use row::bytes::value_at;
 use row::fetch::fetch_from;
+use writer::write_table;
 ghost use mathlib.Core.Path.{_≡_};
 ghost use lib.ListN.{length};
-ghost use Rattle.register.specs.Outcome.{checkAnswer, lookupAnswer, listOutcome, listAnswer, listKey, listValue};
+ghost use Rattle.register.specs.Outcome.{checkAnswer, lookupAnswer, listOutcome, listAnswer, listKey, listValue, putOutcome, removeOutcome, joinOutcome, mergeOutcome, answerOf, outputOf};
+ghost use Rattle.register.specs.Choice.{setOutcome};
 
 // Public call: the record count of a register.
 pub fn check(register: &[u8]) -> Answer
@@ -40,7 +50,7 @@ pub fn lookup(register: &[u8], key: &[u8]) -> Answer
                 return Answer::Refused(Refusal::UnlawfulKey);
             }
             match search(register, &index, count, key) {
-                Searched::At(place) => Answer::Done(place as u32),
+                Searched::At(_, place) => Answer::Done(place as u32),
                 Searched::Absent => Answer::Refused(Refusal::KeyAbsent),
             }
         }
@@ -78,5 +88,90 @@ pub fn list(register: &[u8], n: u64, out: &mut [u8], value: &mut [u8; 32]) -> An
             Answer::Done(size as u32)
         }
         Register::Refused(refusal) => Answer::Refused(refusal),
+    }
+}
+
+// Public call: the register with a value set under a key. Its table is written with zeros after it, and the table's length is answered. On
+// refusal the output is zero, as it is after each call below.
+pub fn put(register: &[u8], key: &[u8], value: &[u8], out: &mut [u8]) -> Answer
+    ensures answer { λ r. ⌜ r ≡ answerOf (putOutcome (now (register .entry)) (now (key .entry)) (now (value .entry)) (length (now (out .entry)))) ⌝ }
+    ensures output { λ _. ⌜ now (out .exit) ≡ outputOf (putOutcome (now (register .entry)) (now (key .entry)) (now (value .entry)) (length (now (out .entry)))) (length (now (out .entry))) ⌝ }
+{
+    set_value(register, key, value, false, out)
+}
+
+// Public call: the same, but of two values under the key the greater is kept.
+pub fn join(register: &[u8], key: &[u8], value: &[u8], out: &mut [u8]) -> Answer
+    ensures answer { λ r. ⌜ r ≡ answerOf (joinOutcome (now (register .entry)) (now (key .entry)) (now (value .entry)) (length (now (out .entry)))) ⌝ }
+    ensures output { λ _. ⌜ now (out .exit) ≡ outputOf (joinOutcome (now (register .entry)) (now (key .entry)) (now (value .entry)) (length (now (out .entry)))) (length (now (out .entry))) ⌝ }
+{
+    set_value(register, key, value, true, out)
+}
+
+// Put, or join. The record is woven into the register's as the only one of a second.
+fn set_value(register: &[u8], key: &[u8], value: &[u8], greater: bool, out: &mut [u8]) -> Answer
+    ensures answer { λ r. ⌜ r ≡ answerOf (setOutcome greater (now (register .entry)) (now (key .entry)) (now (value .entry)) (length (now (out .entry)))) ⌝ }
+    ensures output { λ _. ⌜ now (out .exit) ≡ outputOf (setOutcome greater (now (register .entry)) (now (key .entry)) (now (value .entry)) (length (now (out .entry)))) (length (now (out .entry))) ⌝ }
+{
+    let mut index = [0u64; 4096];
+    match judge(register, &mut index) {
+        Register::Accepted(count) => {
+            if !is_lawful(key) {
+                return refuse(out, Refusal::UnlawfulKey);
+            }
+            if value.len() != 32 {
+                return refuse(out, Refusal::ValueLength);
+            }
+            let bytes = value_at(value, 0);
+            let mut page = [0u8; 512];
+            let mut words = [0u64; 1];
+            words[0] = single(key, bytes, &mut page);
+            write_chosen(register, &page, &index, count, &words, 1, greater, out)
+        }
+        Register::Refused(refusal) => refuse(out, refusal),
+    }
+}
+
+// Public call: the register without a key.
+pub fn remove(register: &[u8], key: &[u8], out: &mut [u8]) -> Answer
+    ensures answer { λ r. ⌜ r ≡ answerOf (removeOutcome (now (register .entry)) (now (key .entry)) (length (now (out .entry)))) ⌝ }
+    ensures output { λ _. ⌜ now (out .exit) ≡ outputOf (removeOutcome (now (register .entry)) (now (key .entry)) (length (now (out .entry)))) (length (now (out .entry))) ⌝ }
+{
+    let mut index = [0u64; 4096];
+    match judge(register, &mut index) {
+        Register::Accepted(count) => {
+            if !is_lawful(key) {
+                return refuse(out, Refusal::UnlawfulKey);
+            }
+            match search(register, &index, count, key) {
+                Searched::At(position, _) => {
+                    leave_out(&mut index, count, position);
+                    write_table(register, register, &index, count - 1, out)
+                }
+                Searched::Absent => refuse(out, Refusal::KeyAbsent),
+            }
+        }
+        Register::Refused(refusal) => refuse(out, refusal),
+    }
+}
+
+// Public call: all records of two registers; of two values under one key the greater is kept.
+pub fn merge(first: &[u8], second: &[u8], out: &mut [u8]) -> Answer
+    ensures answer { λ r. ⌜ r ≡ answerOf (mergeOutcome (now (first .entry)) (now (second .entry)) (length (now (out .entry)))) ⌝ }
+    ensures output { λ _. ⌜ now (out .exit) ≡ outputOf (mergeOutcome (now (first .entry)) (now (second .entry)) (length (now (out .entry)))) (length (now (out .entry))) ⌝ }
+{
+    let mut index = [0u64; 4096];
+    match judge(first, &mut index) {
+        Register::Accepted(n) => {
+            let mut others = [0u64; 4096];
+            match judge(second, &mut others) {
+                Register::Accepted(m) => {
+                    to_second(&mut others, m);
+                    write_chosen(first, second, &index, n, &others, m, true, out)
+                }
+                Register::Refused(refusal) => refuse(out, refusal),
+            }
+        }
+        Register::Refused(refusal) => refuse(out, refusal),
     }
 }

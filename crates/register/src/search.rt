@@ -6,8 +6,9 @@ ghost use Prim.Native.Nat.{_≤_};
 ghost use lib.ListN.{length};
 ghost use Rattle.register.specs.Search.{SearchSays};
 
+// The position of the key's record and the place of its value.
 pub enum Searched {
-    At(usize),
+    At(usize, usize),
     Absent,
 }
 
@@ -30,7 +31,7 @@ pub fn search(s: &[u8], index: &[u64], count: usize, key: &[u8]) -> Searched
                 low = middle + 1;
             }
             Order::Equal => {
-                return Searched::At(found.value);
+                return Searched::At(middle, found.value);
             }
             Order::Greater => {
                 high = middle;

@@ -1,13 +1,14 @@
+use Rattle.page.proofs.Sizes.{shares-fit, entry-size}
 use borrow.Author.Needs.{needs}
-use Rattle.page.proofs.Sizes.{entry-size}
 use Rattle.page.proofs.writing.entry_length.Statement.{statement}
 use Rattle.page.proofs.writing.entry_length.Tie as tie
 
-shared-bytes-requires : tie.Need-shared-bytes-requires
-shared-bytes-requires c κs = search needs
+shared-count-requires : tie.Need-shared-count-requires
+shared-count-requires c κs = search needs
 
 sub-size : tie.Need-sub-size
-sub-size c = search needs
+sub-size c =
+    search (needs, shares-fit)
 
 number-length-requires : tie.Need-number-length-requires
 number-length-requires c κs = search needs
@@ -43,13 +44,14 @@ add-result-8 : tie.Need-add-result-8
 add-result-8 c = search needs
 
 returns : tie.Need-returns
-returns c = (search (needs, entry-size), search needs)
+returns c =
+    (search (needs, entry-size), search needs)
 
 pub entry-length-spec : {M : Type 1} → statement M
 entry-length-spec =
     tie.close
     (tie.spec
-    shared-bytes-requires
+    shared-count-requires
     sub-size
     number-length-requires
     add-result

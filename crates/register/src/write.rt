@@ -1,0 +1,45 @@
+// What the writing calls write.
+use crate::bytes::clear;
+use crate::choose::Chosen;
+use crate::choose::choose;
+use answer::Answer;
+use answer::Refusal;
+use writer::write_table;
+ghost use mathlib.Core.Path.{_≡_};
+ghost use lib.ListN.{length};
+ghost use Rattle.answer.specs.declared.Answer.the-variants.{Refused};
+ghost use Rattle.fips180.specs.Hash.{zeros};
+ghost use Rattle.row.specs.Row.{Row};
+ghost use Rattle.register.specs.Outcome.{answerOf, outputOf};
+ghost use Rattle.register.specs.Choice.{wovenOf, written};
+
+// A refusal: its number is answered, and the output is zero.
+pub fn refuse(out: &mut [u8], refusal: Refusal) -> Answer
+    ensures answer { λ r. ⌜ r ≡ Refused refusal ⌝ }
+    ensures output { λ _. ⌜ now (out .exit) ≡ zeros (length (now (out .entry))) ⌝ }
+{
+    clear(out);
+    Answer::Refused(refusal)
+}
+
+// The table of the records of two rows. Where both have a key, the second's value is taken, or the greater.
+pub fn write_chosen(
+    s: &[u8],
+    u: &[u8],
+    first: &[u64],
+    n: usize,
+    second: &[u64],
+    m: usize,
+    greater: bool,
+    out: &mut [u8],
+) -> Answer
+    requires { ⌜ Row (now s) (now u) (now first) n × Row (now s) (now u) (now second) m ⌝ }
+    ensures answer { λ r. ⌜ r ≡ answerOf (written (wovenOf greater (now (s .entry)) (now (u .entry)) (now (first .entry)) n (now (second .entry)) m) (length (now (out .entry)))) ⌝ }
+    ensures output { λ _. ⌜ now (out .exit) ≡ outputOf (written (wovenOf greater (now (s .entry)) (now (u .entry)) (now (first .entry)) n (now (second .entry)) m) (length (now (out .entry)))) (length (now (out .entry))) ⌝ }
+{
+    let mut row = [0u64; 4096];
+    match choose(s, u, first, n, second, m, greater, &mut row) {
+        Chosen::Count(count) => write_table(s, u, &row, count, out),
+        Chosen::TooMany => refuse(out, Refusal::TooManyRecords),
+    }
+}

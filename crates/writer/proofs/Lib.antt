@@ -1,0 +1,9 @@
+pub mod Ranges
+pub mod Runs
+pub mod Clearing
+pub mod Holding
+pub mod Measures
+pub mod Turns
+pub mod Gaps
+pub mod Sites
+pub mod Whole

@@ -1,0 +1,187 @@
+-- The definitions along a range of records, as the loops go.
+use Prim.Native.Nat.{ℕ, zero, suc, _+_, _-_, _≤_, _<_}
+use mathlib.Core.Path.{_≡_, refl, sym, ap, _∙_}
+use mathlib.Core.Option.{Option}
+use mathlib.Core.List.{List, [], _∷_, _++_, append-assoc}
+use native.Mathlib.Omega.{arith}
+use native.Mathlib.Numerals.{add-one}
+use lib.ListN.{length, length-append}
+use borrow.Author.Tests.{eq-eqb, ne-eqb}
+use Rattle.page.specs.Reading.{concat}
+use Rattle.page.specs.Page.{entryBytes}
+use Rattle.page.specs.Front.{entryAfter, pageStartBytes, pageEndBytes}
+use Rattle.page.proofs.Sizes.{page-parts}
+use Rattle.tree.specs.Tree.{Page, page, Gap, Entries, end, entry, Placed, Parted, part, entriesOf, pageOf, build}
+use Rattle.tree.specs.Record.{Record, spelt, speltUnder, speltFrom}
+use Rattle.tree.specs.Table.{linkOf, rawEntries, rawPage, bytesOfPage, table, tableUnder, tableFrom, digestOf}
+use Rattle.writer.specs.Build.{recordIn, span, gapFor}
+use Rattle.writer.specs.Wrote.{Run}
+
+-- the entries from the i-th record on, of a page of layer n that ends at hi
+unfoldable pub entriesAt : ℕ → (ℕ → Placed Record) → ℕ → ℕ → Entries Record (List ℕ)
+entriesAt n f i hi = entriesOf (gapFor n) (part n (span f i (hi - i)) .rest)
+
+-- their bytes, their number, and the tables below them
+abbrev pub bytesOf : List ℕ → Entries Record (List ℕ) → List ℕ
+bytesOf before es = concat entryBytes (rawEntries (speltFrom before es))
+
+abbrev pub countOf : List ℕ → Entries Record (List ℕ) → ℕ
+countOf before es = length (rawEntries (speltFrom before es))
+
+abbrev pub tablesOf : List ℕ → Entries Record (List ℕ) → List ℕ
+tablesOf before es = tableFrom (speltFrom before es)
+
+-- the link of a gap, and the table below it
+abbrev pub linkTo : Gap Record (List ℕ) → Option (List ℕ)
+linkTo g = linkOf (speltUnder g)
+
+abbrev pub tableIn : Gap Record (List ℕ) → List ℕ
+tableIn g = tableUnder (speltUnder g)
+
+-- ---- a row parted
+-- lo to r are no records of layer n, and r is one or the end
+pub record Cuts (f : ℕ → Placed Record) (n lo hi r : ℕ) : Type 0 where
+  pub from : lo ≤ r
+  pub to : r ≤ hi
+  pub first : part n (span f lo (hi - lo)) .first ≡ span f lo (r - lo)
+  pub rest : part n (span f lo (hi - lo)) .rest ≡ part n (span f r (hi - r)) .rest
+
+part-here : (n : ℕ) (r : Placed Record) (rs : List (Placed Record)) → r .layer ≡ n
+    → part n (r ∷ rs) ≡ record { first = []; rest = (r .item, part n rs .first) ∷ part n rs .rest }
+unfolding part
+part-here n r rs e = rw (eq-eqb (r .layer) n e)
+
+part-other : (n : ℕ) (r : Placed Record) (rs : List (Placed Record)) → (r .layer ≡ n → ⊥)
+    → part n (r ∷ rs) ≡ record { first = r ∷ part n rs .first; rest = part n rs .rest }
+unfolding part
+part-other n r rs e = rw (ne-eqb (r .layer) n e)
+
+empty-run : (f : ℕ → Placed Record) (n lo m : ℕ) → (0 < m → f lo .layer ≡ n) → part n (span f lo m) .first ≡ []
+unfolding part span
+empty-run f n lo zero h = refl
+empty-run f n lo (suc m) h = ap (λ (p : Parted Record). p .first) (part-here n (f lo) (span f (suc lo) m) (h (omega arith)))
+
+runs : (f : ℕ → Placed Record) (n k lo m : ℕ) → ((j : ℕ) → lo ≤ j → j < lo + k → f j .layer ≡ n → ⊥) → (0 < m → f (lo + k) .layer ≡ n)
+    → (part n (span f lo (k + m)) .first ≡ span f lo k) × (part n (span f lo (k + m)) .rest ≡ part n (span f (lo + k) m) .rest)
+unfolding span
+runs f n zero lo m o s =
+    let e : 0 + m ≡ m = omega arith in
+    let z : lo + 0 ≡ lo = omega arith in
+    (rw e (empty-run f n lo m (λ h. rw z at (s h))), rw (e, z))
+runs f n (suc k) lo m o s =
+    let e : suc k + m ≡ suc (k + m) = omega arith in
+    let z : lo + suc k ≡ suc lo + k = omega arith in
+    let ih = runs f n k (suc lo) m (λ j h l q. o j (omega arith) (omega arith) q) (λ h. rw z at (s h)) in
+    let c = part-other n (f lo) (span f (suc lo) (k + m)) (o lo (omega arith) (omega arith)) in
+    (rw e (ap (λ (p : Parted Record). p .first) c ∙ ap (λ (l : List (Placed Record)). f lo ∷ l) (ih .0)), rw (e, z) (ap (λ (p : Parted Record). p .rest) c ∙ ih .1))
+
+pub cuts : (s u row : List ℕ) (n lo hi r : ℕ) → Run row n lo hi r → Cuts (recordIn s u row) n lo hi r
+unfolding recordIn
+cuts s u row n lo hi r w =
+    let h : lo ≤ r = w .from in
+    let k : r ≤ hi = w .to in
+    let e : hi - lo ≡ (r - lo) + (hi - r) = omega arith in
+    let z : lo + (r - lo) ≡ r = omega arith in
+    let p = runs (recordIn s u row) n (r - lo) lo (hi - r) (λ j a b q. w .other j a (omega arith) q) (λ a. rw z (w .stop (omega arith))) in
+    record { from = h; to = k; first = rw e (p .0); rest = rw e (p .1 ∙ rw z) }
+
+-- ---- the entries, one by one
+no-entries : (n : ℕ) (f : ℕ → Placed Record) (i hi : ℕ) → hi ≤ i → entriesAt n f i hi ≡ end
+unfolding entriesAt entriesOf part span
+no-entries n f i hi h = let e : hi - i ≡ 0 = omega arith in rw e
+
+module _ (n : ℕ) (f : ℕ → Placed Record) (before : List ℕ) (i hi : ℕ) (h : hi ≤ i) where
+  pub no-bytes : bytesOf before (entriesAt n f i hi) ≡ []
+  unfolding rawEntries speltFrom
+  no-bytes = rw (no-entries n f i hi h)
+
+  pub no-count : countOf before (entriesAt n f i hi) ≡ 0
+  unfolding rawEntries speltFrom
+  no-count = rw (no-entries n f i hi h)
+
+  pub no-tables : tablesOf before (entriesAt n f i hi) ≡ []
+  unfolding tableFrom speltFrom
+  no-tables = rw (no-entries n f i hi h)
+
+module _ (n : ℕ) (f : ℕ → Placed Record) (before : List ℕ) (i hi next : ℕ) (h : i < hi) (e : f i .layer ≡ n) (c : Cuts f n (i + 1) hi next) where
+  abbrev gap : Gap Record (List ℕ)
+  gap = gapFor n (span f (i + 1) (next - (i + 1)))
+
+  one-entry : entriesAt n f i hi ≡ entry (f i .item) gap (entriesAt n f next hi)
+  unfolding entriesAt entriesOf span
+  one-entry =
+      let z : hi - i ≡ suc (hi - (i + 1)) = omega arith in
+      rw (z, ← add-one i, part-here n (f i) (span f (i + 1) (hi - (i + 1))) e, c .first, c .rest)
+
+  pub bytes-turn : bytesOf before (entriesAt n f i hi) ≡ entryBytes (entryAfter before (f i .item .key) (linkTo gap) (f i .item .val)) ++ bytesOf (f i .item .key) (entriesAt n f next hi)
+  unfolding rawEntries speltFrom entryAfter
+  bytes-turn = rw one-entry
+
+  pub count-turn : countOf before (entriesAt n f i hi) ≡ suc (countOf (f i .item .key) (entriesAt n f next hi))
+  unfolding rawEntries speltFrom
+  count-turn = rw one-entry
+
+  pub tables-turn : tablesOf before (entriesAt n f i hi) ≡ tableIn gap ++ tablesOf (f i .item .key) (entriesAt n f next hi)
+  unfolding tableFrom speltFrom
+  tables-turn = rw one-entry
+
+-- ---- a page and its table by their parts
+build-is : (n : ℕ) (rs : List (Placed Record)) → build digestOf n rs ≡ pageOf (gapFor n) (part n rs)
+unfolding build gapFor
+build-is zero rs = refl
+build-is (suc n) rs = refl
+
+page-bytes : (g : Gap Record (List ℕ)) (es : Entries Record (List ℕ))
+    → bytesOfPage (spelt (page g es)) ≡ (pageStartBytes (countOf [] es) ++ bytesOf [] es) ++ pageEndBytes (linkTo g)
+unfolding bytesOfPage rawPage spelt
+page-bytes g es =
+    page-parts (record { entries = rawEntries (speltFrom [] es); left = linkTo g })
+    ∙ sym (append-assoc (pageStartBytes (countOf [] es)) (bytesOf [] es) (pageEndBytes (linkTo g)))
+
+page-table : (g : Gap Record (List ℕ)) (es : Entries Record (List ℕ)) → table (spelt (page g es)) ≡ bytesOfPage (spelt (page g es)) ++ (tableIn g ++ tablesOf [] es)
+unfolding table spelt
+page-table g es = refl
+
+page-count : (g : Gap Record (List ℕ)) (es : Entries Record (List ℕ)) → length (rawPage (spelt (page g es)) .entries) ≡ countOf [] es
+unfolding rawPage spelt
+page-count g es = refl
+
+module _ (n : ℕ) (f : ℕ → Placed Record) (lo hi first : ℕ) (c : Cuts f n lo hi first) where
+  abbrev tree : Page Record (List ℕ)
+  tree = build digestOf n (span f lo (hi - lo))
+
+  abbrev left : Gap Record (List ℕ)
+  left = gapFor n (span f lo (first - lo))
+
+  abbrev es : Entries Record (List ℕ)
+  es = entriesAt n f first hi
+
+  page-is : tree ≡ page left es
+  unfolding entriesAt pageOf
+  page-is = build-is n (span f lo (hi - lo)) ∙ rw (c .first, c .rest)
+
+  pub bytes-are : bytesOfPage (spelt tree) ≡ (pageStartBytes (countOf [] es) ++ bytesOf [] es) ++ pageEndBytes (linkTo left)
+  bytes-are = rw page-is (page-bytes left es)
+
+  pub table-is : table (spelt tree) ≡ bytesOfPage (spelt tree) ++ (tableIn left ++ tablesOf [] es)
+  table-is = rw page-is (page-table left es)
+
+  pub count-is : length (rawPage (spelt tree) .entries) ≡ countOf [] es
+  count-is = rw page-is (page-count left es)
+
+  pub page-length : length (bytesOfPage (spelt tree)) ≡ length (pageStartBytes (countOf [] es) ++ bytesOf [] es) + length (pageEndBytes (linkTo left))
+  page-length = ap length bytes-are ∙ length-append (pageStartBytes (countOf [] es) ++ bytesOf [] es) (pageEndBytes (linkTo left))
+
+  pub table-length : length (table (spelt tree)) ≡ length (bytesOfPage (spelt tree)) + length (tableIn left ++ tablesOf [] es)
+  table-length = ap length table-is ∙ length-append (bytesOfPage (spelt tree)) (tableIn left ++ tablesOf [] es)
+
+-- behind the first page
+pub behindPage : Page Record (List ℕ) → List ℕ
+behindPage (page g es) = tableIn g ++ tablesOf [] es
+
+pub table-front : (t : Page Record (List ℕ)) → table (spelt t) ≡ bytesOfPage (spelt t) ++ behindPage t
+unfolding behindPage
+table-front (page g es) = page-table g es
+
+pub table-longer : (t : Page Record (List ℕ)) → length (bytesOfPage (spelt t)) ≤ length (table (spelt t))
+table-longer t = omega (arith, ap length (table-front t), length-append (bytesOfPage (spelt t)) (behindPage t))

@@ -1,0 +1,3 @@
+pub mod Build
+pub mod Wrote
+pub mod Output
