@@ -3,92 +3,47 @@
 
 #[path = "../tests/common/mod.rs"]
 mod common;
+mod subject;
 mod timing;
 
-use common::sets::{set, Kind};
 use std::hint::black_box;
+use subject::Subject;
 use timing::best_times;
 
-/// A register of 4,096 records.
-struct Subject {
-    name: &'static str,
-    register: Vec<u8>,
-    /// Where each page ends in the register.
-    page_ends: Vec<usize>,
-    keys: Vec<Vec<u8>>,
+fn check(subject: &Subject) {
+    black_box(mijdegen::check(black_box(&subject.register))).expect("an accepted register");
 }
 
-impl Subject {
-    fn new(name: &'static str, kind: Kind) -> Subject {
-        let set = set(kind, 4_096);
-        let mut register = Vec::new();
-        let mut page_ends = Vec::new();
-        for page in independent::pages(&set) {
-            register.extend(page);
-            page_ends.push(register.len());
-        }
-        assert_eq!(mijdegen::check(&register), Ok(4_096));
-        assert_eq!(independent::check(&register), Ok(4_096));
-        Subject {
-            name,
-            register,
-            page_ends,
-            keys: set.into_keys().collect(),
-        }
-    }
+fn independent_check(subject: &Subject) {
+    black_box(independent::check(black_box(&subject.register))).expect("an accepted register");
+}
 
-    /// The library's own digest over each page and over each key, once each.
-    fn hash_once(&self) {
-        let mut start = 0;
-        for end in &self.page_ends {
-            let page = &self.register[start..*end];
-            black_box(mijdegen::digest(black_box(page))).expect("a page is short");
-            start = *end;
-        }
-        for key in &self.keys {
-            black_box(mijdegen::digest(black_box(key))).expect("a key is short");
-        }
-    }
+/// Looks for the key in the middle.
+fn lookup(subject: &Subject, key: &[u8]) {
+    black_box(mijdegen::lookup(black_box(&subject.register), key)).expect("a present key");
+}
 
-    fn check(&self) {
-        black_box(mijdegen::check(black_box(&self.register))).expect("an accepted register");
-    }
-
-    fn independent_check(&self) {
-        black_box(independent::check(black_box(&self.register))).expect("an accepted register");
-    }
-
-    /// Looks for the key in the middle.
-    fn lookup(&self) {
-        let key = &self.keys[2_048];
-        black_box(mijdegen::lookup(black_box(&self.register), key)).expect("a present key");
-    }
-
-    /// Lists the record in the middle.
-    fn list(&self) {
-        let mut out = [0; 256];
-        let register = black_box(&self.register);
-        black_box(mijdegen::list(register, 2_048, &mut out)).expect("a record");
-        black_box(out);
-    }
+/// Lists the record in the middle.
+fn list(subject: &Subject) {
+    let mut out = [0; 256];
+    let register = black_box(&subject.register);
+    black_box(mijdegen::list(register, 2_048, &mut out)).expect("a record");
+    black_box(out);
 }
 
 fn main() {
-    let subjects = [
-        Subject::new("ordinary records", Kind::Ordinary),
-        Subject::new("one page of 4,096 entries", Kind::OnePage),
-        Subject::new("2,048 entries with a page each", Kind::Alternating),
-    ];
+    let subjects = Subject::all();
 
     let mut owned: Vec<Box<dyn FnMut() + '_>> = Vec::new();
     for subject in &subjects {
-        owned.push(Box::new(|| subject.check()));
+        owned.push(Box::new(|| check(subject)));
         owned.push(Box::new(|| subject.hash_once()));
-        owned.push(Box::new(|| subject.independent_check()));
+        owned.push(Box::new(|| independent_check(subject)));
     }
     let ordinary = &subjects[0];
-    owned.push(Box::new(|| ordinary.lookup()));
-    owned.push(Box::new(|| ordinary.list()));
+    let key = ordinary.middle_key();
+    owned.push(Box::new(|| lookup(ordinary, key)));
+    owned.push(Box::new(|| list(ordinary)));
     let mut tasks: Vec<&mut dyn FnMut()> = Vec::new();
     for task in &mut owned {
         tasks.push(task.as_mut());
@@ -114,7 +69,7 @@ fn main() {
             "{:<31} {:>8} {:>6} {:>9.1} {:>9.1} {:>12.1} {:>16.2} {:>18.2}",
             subject.name,
             subject.register.len(),
-            subject.page_ends.len(),
+            subject.pages(),
             times[0] * 1e6,
             times[1] * 1e6,
             times[2] * 1e6,

@@ -122,6 +122,52 @@ uint64_t mijdegen_lookup(const uint8_t *reg, size_t reg_len, const uint8_t *key,
 uint64_t mijdegen_list(const uint8_t *reg, size_t reg_len, uint64_t n, uint8_t *out,
                        size_t out_len, uint8_t value[MIJDEGEN_DIGEST_LENGTH]);
 
+/*
+ * The four functions below write the register of a changed set of records. Its table stands at
+ * the start of out, with zeros after it up to out_len bytes. The number of the answer is 0 and its
+ * value is the length of the table.
+ *
+ * Otherwise the answer is the first of these numbers that is due, and out is wholly zero:
+ *
+ *   - the number of mijdegen_check for the first register, 1 to 10;
+ *   - that for the second register, 1 to 10;
+ *   - MIJDEGEN_UNLAWFUL_KEY where the key breaks the key rule;
+ *   - MIJDEGEN_VALUE_LENGTH where value_len is not MIJDEGEN_DIGEST_LENGTH;
+ *   - MIJDEGEN_KEY_ABSENT where no record has the key to be removed;
+ *   - MIJDEGEN_TOO_MANY_RECORDS where the result has more than 4,096 records;
+ *   - MIJDEGEN_NO_ROOM where its table is longer than out_len, or than MIJDEGEN_LONGEST bytes.
+ *
+ * A result that equals the register is measured and written as any other. The inputs are never
+ * written and may share bytes with each other. No byte of out may be a byte of an input: to change
+ * a register, write the next one to another buffer.
+ */
+
+/*
+ * Gives the key the value, whether a record has the key already or not.
+ */
+uint64_t mijdegen_put(const uint8_t *reg, size_t reg_len, const uint8_t *key, size_t key_len,
+                      const uint8_t *value, size_t value_len, uint8_t *out, size_t out_len);
+
+/*
+ * Gives the key the value as mijdegen_put does; but where a record has the key already, the
+ * greater of the two values is kept, compared byte by byte from the first.
+ */
+uint64_t mijdegen_join(const uint8_t *reg, size_t reg_len, const uint8_t *key, size_t key_len,
+                       const uint8_t *value, size_t value_len, uint8_t *out, size_t out_len);
+
+/*
+ * Takes the record with the key away.
+ */
+uint64_t mijdegen_remove(const uint8_t *reg, size_t reg_len, const uint8_t *key, size_t key_len,
+                         uint8_t *out, size_t out_len);
+
+/*
+ * Joins all records of the second register into the first, each as mijdegen_join does. What is
+ * written is the same whichever of the two is the first.
+ */
+uint64_t mijdegen_merge(const uint8_t *first, size_t first_len, const uint8_t *second,
+                        size_t second_len, uint8_t *out, size_t out_len);
+
 #ifdef __cplusplus
 }
 #endif

@@ -16,7 +16,7 @@ mod sys;
 pub use refusal::Refusal;
 
 /// The length in bytes of the longest register, and of the longest input that [`digest`] and
-/// [`layer`] take.
+/// [`layer`] take. No call that writes a register needs a longer output.
 pub const LONGEST: usize = 4_194_304;
 
 /// The length in bytes of the longest key. An output so long has room for each key of [`list`].
@@ -200,6 +200,149 @@ pub fn list(register: &[u8], n: usize, out: &mut [u8]) -> Result<Option<Listed>,
         return Ok(None);
     }
     Ok(Some(Listed { key_length, value }))
+}
+
+/// Writes the register in which the key has the value, whether a record has the key already or
+/// not. Gives the length of its table.
+///
+/// The table stands at the start of the output, with zeros after it. On refusal the output is
+/// zero. A value is the SHA-256 digest of the record's block, but any 32 bytes are taken.
+///
+/// # Errors
+///
+/// One of the refusals 1 to 10 where [`check`] refuses the register; then
+/// [`Refusal::UnlawfulKey`] where the key breaks the key rule, [`Refusal::ValueLength`] where the
+/// value is not 32 bytes, [`Refusal::TooManyRecords`] where the result has more than 4,096
+/// records, and [`Refusal::NoRoom`] where its table is longer than the output, or than
+/// [`LONGEST`] bytes.
+///
+/// # Examples
+///
+/// ```
+/// use mijdegen::{put, Refusal};
+///
+/// // The empty register is one page without entries and without a link. Puts into it reach any
+/// // set of records.
+/// let empty = b"\xa2\x61e\x80\x61l\xf6";
+/// let mut out = [0; 64];
+/// assert_eq!(put(empty, b"a/b1", &[0x11; 32], &mut out), Ok(64));
+///
+/// // One page with one entry: key `a/b1`, prefix 0, no link, and the value as a link.
+/// let mut expected = b"\xa2\x61e\x81\xa4\x61k\x44a/b1\x61p\x00\x61t\xf6\x61v".to_vec();
+/// expected.extend(b"\xd8\x2a\x58\x25\x00\x01\x71\x12\x20");
+/// expected.extend([0x11; 32]);
+/// expected.extend(b"\x61l\xf6");
+/// assert_eq!(out[..], expected);
+///
+/// // 63 bytes are too few.
+/// let refused = put(empty, b"a/b1", &[0x11; 32], &mut out[..63]);
+/// assert_eq!(refused, Err(Refusal::NoRoom));
+/// assert_eq!(out[..63], [0; 63]);
+///
+/// let refused = put(empty, b"a/b1", &[0x11; 31], &mut out);
+/// assert_eq!(refused, Err(Refusal::ValueLength));
+/// ```
+pub fn put(register: &[u8], key: &[u8], value: &[u8], out: &mut [u8]) -> Result<usize, Refusal> {
+    Ok(count(outcome(sys::put(register, key, value, out))?))
+}
+
+/// Writes the register with the record, where a present key keeps the greater of two values. Gives
+/// the length of its table.
+///
+/// Values are compared byte by byte from the first. The output is written as by [`put`].
+///
+/// # Errors
+///
+/// Those of [`put`].
+///
+/// # Examples
+///
+/// ```
+/// use mijdegen::{join, lookup};
+///
+/// let empty = b"\xa2\x61e\x80\x61l\xf6";
+/// let mut first = [0; 64];
+/// let mut second = [0; 64];
+///
+/// assert_eq!(join(empty, b"a/b1", &[0x22; 32], &mut first), Ok(64));
+/// assert_eq!(join(&first, b"a/b1", &[0x11; 32], &mut second), Ok(64));
+/// assert_eq!(lookup(&second, b"a/b1"), Ok(&[0x22; 32]));
+///
+/// assert_eq!(join(&second, b"a/b1", &[0x33; 32], &mut first), Ok(64));
+/// assert_eq!(lookup(&first, b"a/b1"), Ok(&[0x33; 32]));
+/// ```
+pub fn join(register: &[u8], key: &[u8], value: &[u8], out: &mut [u8]) -> Result<usize, Refusal> {
+    Ok(count(outcome(sys::join(register, key, value, out))?))
+}
+
+/// Writes the register without the key's record. Gives the length of its table.
+///
+/// The output is written as by [`put`].
+///
+/// # Errors
+///
+/// One of the refusals 1 to 10 where [`check`] refuses the register; then
+/// [`Refusal::UnlawfulKey`] where the key breaks the key rule, [`Refusal::KeyAbsent`] where the
+/// register has no record with the key, and [`Refusal::NoRoom`] where the result's table is longer
+/// than the output, or than [`LONGEST`] bytes.
+///
+/// # Examples
+///
+/// ```
+/// use mijdegen::{put, remove, Refusal};
+///
+/// let empty = b"\xa2\x61e\x80\x61l\xf6";
+/// let mut register = [0; 64];
+/// put(empty, b"a/b1", &[0x11; 32], &mut register)?;
+///
+/// let mut out = [0xaa; 10];
+/// assert_eq!(remove(&register, b"a/b1", &mut out), Ok(7));
+/// assert_eq!(out[..7], *empty);
+/// assert_eq!(out[7..], [0; 3]);
+///
+/// assert_eq!(remove(&register, b"a/b2", &mut out), Err(Refusal::KeyAbsent));
+/// assert_eq!(out, [0; 10]);
+/// # Ok::<(), Refusal>(())
+/// ```
+pub fn remove(register: &[u8], key: &[u8], out: &mut [u8]) -> Result<usize, Refusal> {
+    Ok(count(outcome(sys::remove(register, key, out))?))
+}
+
+/// Writes the first register with all records of the second joined. Gives the length of its table.
+///
+/// Each record is joined as by [`join`], so what is written is the same whichever of the two is
+/// the first. The output is written as by [`put`].
+///
+/// # Errors
+///
+/// One of the refusals 1 to 10 where [`check`] refuses the first register, then where it refuses
+/// the second; then [`Refusal::TooManyRecords`] where the result has more than 4,096 records, and
+/// [`Refusal::NoRoom`] where its table is longer than the output, or than [`LONGEST`] bytes.
+///
+/// # Examples
+///
+/// ```
+/// use mijdegen::{check, lookup, merge, put, Refusal};
+///
+/// let empty = b"\xa2\x61e\x80\x61l\xf6";
+/// let (mut first, mut second) = ([0; 64], [0; 64]);
+/// put(empty, b"a/b1", &[0x11; 32], &mut first)?;
+/// put(empty, b"a/b2", &[0x22; 32], &mut second)?;
+///
+/// let mut merged = [0; 200];
+/// let length = merge(&first, &second, &mut merged)?;
+/// let merged = &merged[..length];
+/// assert_eq!(check(merged), Ok(2));
+/// assert_eq!(lookup(merged, b"a/b1"), Ok(&[0x11; 32]));
+/// assert_eq!(lookup(merged, b"a/b2"), Ok(&[0x22; 32]));
+///
+/// let mut other_way = [0; 200];
+/// assert_eq!(merge(&second, &first, &mut other_way), Ok(length));
+/// assert_eq!(other_way[..length], *merged);
+/// # Ok::<(), Refusal>(())
+/// ```
+pub fn merge(first: &[u8], second: &[u8], out: &mut [u8]) -> Result<usize, Refusal> {
+    Ok(count(outcome(sys::merge(first, second, out))?))
 }
 
 /// Gives a value of the library that counts bytes or records of a slice.

@@ -18,6 +18,42 @@ extern "C" {
         out_len: usize,
         value: *mut [u8; 32],
     ) -> u64;
+    fn mijdegen_put(
+        reg: *const u8,
+        reg_len: usize,
+        key: *const u8,
+        key_len: usize,
+        value: *const u8,
+        value_len: usize,
+        out: *mut u8,
+        out_len: usize,
+    ) -> u64;
+    fn mijdegen_join(
+        reg: *const u8,
+        reg_len: usize,
+        key: *const u8,
+        key_len: usize,
+        value: *const u8,
+        value_len: usize,
+        out: *mut u8,
+        out_len: usize,
+    ) -> u64;
+    fn mijdegen_remove(
+        reg: *const u8,
+        reg_len: usize,
+        key: *const u8,
+        key_len: usize,
+        out: *mut u8,
+        out_len: usize,
+    ) -> u64;
+    fn mijdegen_merge(
+        first: *const u8,
+        first_len: usize,
+        second: *const u8,
+        second_len: usize,
+        out: *mut u8,
+        out_len: usize,
+    ) -> u64;
 }
 
 /// Writes the digest of the input, or zeros on refusal, and gives the answer.
@@ -64,6 +100,77 @@ pub(crate) fn list(register: &[u8], n: u64, out: &mut [u8], value: &mut [u8; 32]
             out.as_mut_ptr(),
             out.len(),
             value,
+        )
+    }
+}
+
+/// Writes the register in which the key has the value, or zeros on refusal, and gives the answer
+/// that holds the table's length.
+pub(crate) fn put(register: &[u8], key: &[u8], value: &[u8], out: &mut [u8]) -> u64 {
+    // SAFETY: Each pointer and its length are of one slice, so that many bytes can be read, or
+    // written, for the whole call. The pointer of an empty slice may lead nowhere, but at length
+    // 0 it is neither read nor written. The inputs are only read, so they may share bytes. Being
+    // mutable, the output shares no byte with them.
+    unsafe {
+        mijdegen_put(
+            register.as_ptr(),
+            register.len(),
+            key.as_ptr(),
+            key.len(),
+            value.as_ptr(),
+            value.len(),
+            out.as_mut_ptr(),
+            out.len(),
+        )
+    }
+}
+
+/// Writes the register with the record joined, or zeros on refusal, and gives the answer that
+/// holds the table's length.
+pub(crate) fn join(register: &[u8], key: &[u8], value: &[u8], out: &mut [u8]) -> u64 {
+    // SAFETY: As for `put`.
+    unsafe {
+        mijdegen_join(
+            register.as_ptr(),
+            register.len(),
+            key.as_ptr(),
+            key.len(),
+            value.as_ptr(),
+            value.len(),
+            out.as_mut_ptr(),
+            out.len(),
+        )
+    }
+}
+
+/// Writes the register without the key's record, or zeros on refusal, and gives the answer that
+/// holds the table's length.
+pub(crate) fn remove(register: &[u8], key: &[u8], out: &mut [u8]) -> u64 {
+    // SAFETY: As for `put`.
+    unsafe {
+        mijdegen_remove(
+            register.as_ptr(),
+            register.len(),
+            key.as_ptr(),
+            key.len(),
+            out.as_mut_ptr(),
+            out.len(),
+        )
+    }
+}
+
+/// Writes the first register with all records of the second joined, or zeros on refusal, and
+/// gives the answer that holds the table's length.
+pub(crate) fn merge(first: &[u8], second: &[u8], out: &mut [u8]) -> u64 {
+    // SAFETY: As for `put`.
+    unsafe {
+        mijdegen_merge(
+            first.as_ptr(),
+            first.len(),
+            second.as_ptr(),
+            second.len(),
+            out.as_mut_ptr(),
+            out.len(),
         )
     }
 }

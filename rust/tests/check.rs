@@ -2,28 +2,15 @@
 
 mod common;
 
-use common::calls::{number_of, raw_check};
-use common::forge::{Page, EMPTY};
-use common::sets::{set, set_of_layers, sets_to, Kind, COUNTS, HIGH, KINDS};
+use common::calls::{mijdegen_check, number_of, raw_check};
+use common::forge::{one_record, Page, EMPTY};
+use common::sets::{
+    published_trees, rows_of_few_layers, set, set_of_layers, sets_to, Kind, COUNTS, HIGH, KINDS,
+};
 use common::Random;
 use independent::{layer, pages, sha256, table, tree_of, Set};
 use mijdegen::{check, digest, Refusal, LONGEST};
 use std::ptr::{self, NonNull};
-
-extern "C" {
-    fn mijdegen_check(reg: *const u8, reg_len: usize) -> u64;
-}
-
-/// The register of `a/b1` with a value of 32 bytes `11`, as the scope writes it.
-fn one_record() -> Vec<u8> {
-    let mut register = vec![
-        0xa2, 0x61, 0x65, 0x81, 0xa4, 0x61, 0x6b, 0x44, 0x61, 0x2f, 0x62, 0x31, 0x61, 0x70, 0x00,
-        0x61, 0x74, 0xf6, 0x61, 0x76, 0xd8, 0x2a, 0x58, 0x25, 0x00, 0x01, 0x71, 0x12, 0x20,
-    ];
-    register.extend([0x11; 32]);
-    register.extend([0x61, 0x6c, 0xf6]);
-    register
-}
 
 #[test]
 fn registers_of_the_scope() {
@@ -85,66 +72,25 @@ fn shapes_of_the_kinds() {
 
 /// The published trees, with the digest of their root by the library.
 #[test]
-fn published_trees() {
-    let value = [
-        0x9d, 0x15, 0x6b, 0xc3, 0xf3, 0xa5, 0x20, 0x06, 0x62, 0x52, 0xc7, 0x08, 0xa9, 0x36, 0x1f,
-        0xd3, 0xd0, 0x89, 0x22, 0x38, 0x42, 0x50, 0x0e, 0x37, 0x13, 0xd4, 0x04, 0xfd, 0xcc, 0xb3,
-        0x3c, 0xef,
-    ];
-    let trees: [(&[&str], &str); 3] = [
-        (
-            &[],
-            "9dfefe61dd76ea3dcae5023880b08379d57adf20482d6fdbe2759289f647677b",
-        ),
-        (
-            &["3jqfcqzm3fo2j"],
-            "29e2e42d820d8d5e77f6ec8b4ae746b1a72d86cfcbb20700b35ed6c1e982791d",
-        ),
-        (
-            &[
-                "3jqfcqzm3fp2j",
-                "3jqfcqzm3fr2j",
-                "3jqfcqzm3fs2j",
-                "3jqfcqzm3ft2j",
-                "3jqfcqzm4fc2j",
-            ],
-            "4c01f12871beb16977775a6786f463f9fc33866c7997fbe9f5bf6946610ad0fb",
-        ),
-    ];
-    for (names, root) in trees {
-        let set: Set = names
-            .iter()
-            .map(|name| (format!("com.example.record/{name}").into_bytes(), value))
-            .collect();
+fn roots_of_published_trees() {
+    // 3 trees.
+    for (set, root) in published_trees() {
         let pages = pages(&set);
         let found = digest(&pages[0]).expect("a page is short");
         assert_eq!(common::hexadecimal(&found), root);
-        assert_eq!(check(&pages.concat()), Ok(names.len()));
+        assert_eq!(check(&pages.concat()), Ok(set.len()));
     }
 }
 
-/// All rows of 1 to 5 layers from 0 to 2, and of 2 and 3 layers from 0 to 4.
 #[test]
 fn all_rows_of_few_layers() {
-    fn rows(length: usize, highest: u8) -> Vec<Vec<u8>> {
-        let mut rows = vec![vec![]];
-        for _ in 0..length {
-            let longer = rows.iter().flat_map(|row| {
-                (0..=highest).map(move |layer| [row.as_slice(), &[layer]].concat())
-            });
-            rows = longer.collect();
-        }
-        rows
-    }
     let mut cases = 0;
-    for (length, highest) in [(1, 2), (2, 2), (3, 2), (4, 2), (5, 2), (2, 4), (3, 4)] {
-        for row in rows(length, highest) {
-            let set = set_of_layers(&row);
-            assert_eq!(number_of(&table(&set)), 0, "{row:?}");
-            cases += 1;
-        }
+    for row in rows_of_few_layers() {
+        let set = set_of_layers(&row);
+        assert_eq!(number_of(&table(&set)), 0, "{row:?}");
+        cases += 1;
     }
-    assert_eq!(cases, 3 + 9 + 27 + 81 + 243 + 25 + 125);
+    assert_eq!(cases, 513);
 }
 
 #[test]

@@ -1,28 +1,23 @@
-//! Registers with faults: what check, lookup and list refuse, and with which number.
+//! Registers with faults: what the calls refuse, and with which number.
 //!
-//! `number_of` compares all three calls with the independent crate. Where the number is known
-//! beforehand it is written here as well.
+//! `number_of` compares the calls with the independent crate. Where the number is known beforehand
+//! it is written here as well.
 
 mod common;
 
 use common::calls::number_of;
 use common::forge::{
-    entry_bytes, left_chain, link_bytes, link_to, longest_page, page_bytes, right_chain, Entry,
-    Link, Page, EMPTY,
+    entry_bytes, faulty_registers, left_chain, link_bytes, link_to, longest_page, one_record,
+    page_bytes, right_chain, Entry, Link, Page, EMPTY,
 };
-use common::sets::{set, set_of_layers, Kind, KINDS};
+use common::sets::{set, set_of_layers, short_unlawful_keys, Kind, KINDS};
 use common::Random;
-use independent::{layer, pages, sha256, table, Set};
+use independent::{lawful, layer, pages, sha256, table, Set};
 use mijdegen::LONGEST;
 
 const VALUE: [u8; 32] = [0x11; 32];
 
 const NULL: &[u8] = &[0xf6];
-
-/// The register of `a/b1`.
-fn one_record() -> Vec<u8> {
-    Page::of_keys(&[b"a/b1"]).table()
-}
 
 /// Small registers of one page and of several.
 fn small_registers() -> Vec<Vec<u8>> {
@@ -641,48 +636,25 @@ fn bytes_after_the_last_page() {
 /// Keys of every form that breaks the rule, as the only key of a register.
 #[test]
 fn unlawful_keys() {
-    let keys: [&[u8]; 20] = [
-        b"",
-        b"/",
-        b"a",
-        b"ab",
-        b"a/",
-        b"/a",
-        b"//",
-        b"abc",
-        b"ab/",
-        b"/ab",
-        b"a//b",
-        b"a/b/c",
-        b"/a/b",
-        b"a/b/",
-        b"a/b c",
-        b"a/b\0",
-        b"\0/a",
-        b"a/b\xff",
-        b"a\\b",
-        b"a/\xc3\xa9",
-    ];
     let mut cases = 0;
-    for key in keys {
-        assert_eq!(number_of(&Page::of_keys(&[key]).table()), 7, "{key:?}");
+    for key in short_unlawful_keys() {
+        assert_eq!(number_of(&Page::of_keys(&[&key]).table()), 7, "{key:?}");
         cases += 1;
     }
     // All bytes at both sides of the slash.
-    let mut lawful = 0;
+    let mut accepted = 0;
     for byte in 0..=255_u8 {
-        let plain = byte.is_ascii_alphanumeric() || b".-_:~".contains(&byte);
-        let expected = if plain { 0 } else { 7 };
         for key in [[byte, b'/', b'b'], [b'a', b'/', byte]] {
+            let expected = if lawful(&key) { 0 } else { 7 };
             let number = number_of(&Page::of_keys(&[&key]).table());
             assert_eq!(number, expected, "{key:?}");
-            lawful += usize::from(number == 0);
+            accepted += usize::from(number == 0);
             cases += 1;
         }
     }
-    // 20 keys, and 256 bytes at 2 places.
-    assert_eq!(lawful, 2 * 67);
-    assert_eq!(cases, 20 + 256 * 2);
+    // 24 keys, and 256 bytes at 2 places.
+    assert_eq!(accepted, 2 * 67);
+    assert_eq!(cases, 24 + 256 * 2);
 }
 
 /// Keys that do not rise, within a page and from one page to another.
@@ -972,24 +944,11 @@ fn add_fault(root: &mut Page, number: u8, page: usize, place: usize) {
 /// Each number alone, in each page, and the scope's small example of it.
 #[test]
 fn each_number_alone() {
-    let zeros = vec![0; LONGEST + 1];
-    assert_eq!(number_of(&zeros), 1);
-    assert_eq!(number_of(&EMPTY[..6]), 2);
+    for (number, register) in (1..).zip(faulty_registers()) {
+        assert_eq!(number_of(&register), number);
+    }
     assert_eq!(number_of(&[]), 2);
-    assert_eq!(number_of(&[0xa2, 0x61, 0x6c]), 3);
-    assert_eq!(number_of(&[&EMPTY[..], NULL].concat()), 4);
-    assert_eq!(number_of(&table(&set(Kind::Ordinary, 4_097))), 5);
-    let mut prefix = Page::of_keys(&[b"a/b1"]);
-    prefix.entries[0].prefix = 1;
-    assert_eq!(number_of(&prefix.table()), 6);
-    assert_eq!(number_of(&Page::of_keys(&[b"ab"]).table()), 7);
     assert_eq!(number_of(&Page::of_keys(&[b"a/"]).table()), 7);
-    assert_eq!(number_of(&Page::of_keys(&[b"a/b2", b"a/b1"]).table()), 8);
-    let above = Page::above(Page::of_keys(&[b"a/b1"]));
-    assert_eq!(number_of(&above.table()), 9);
-    let mut two = Page::of_set(&set_of_layers(&[0, 1]));
-    two.left.as_mut().expect("a link").flip[0] = 0x80;
-    assert_eq!(number_of(&two.table()), 10);
 
     let mut cases = 0;
     for page in [1, 2] {

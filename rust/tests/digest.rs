@@ -2,15 +2,11 @@
 
 mod common;
 
+use common::calls::{mijdegen_digest, Surrounded};
 use common::{hexadecimal, Random};
 use mijdegen::{digest, Refusal, LONGEST};
 use std::collections::BTreeSet;
 use std::ptr::{self, NonNull};
-
-extern "C" {
-    // The output is declared as a pointer to bytes, since here it lies within a longer buffer.
-    fn mijdegen_digest(input: *const u8, input_len: usize, out: *mut u8) -> u64;
-}
 
 fn check_published(message: &[u8], published: &str) {
     let found = digest(message).expect("the message is short enough");
@@ -154,35 +150,16 @@ fn a_length_over_32_bits_is_refused() {
 /// Checks that the bytes around the output and the input stay as they were. Gives the answer
 /// and the output.
 fn raw_digest(input: &mut [u8], offset: usize) -> (u64, [u8; 32]) {
-    const AROUND: usize = 64;
-    let start = AROUND + offset;
-    let end = start + 32;
-
-    let mut buffer = vec![0; end + AROUND];
-    for (place, byte) in buffer.iter_mut().enumerate() {
-        *byte = (place as u8) ^ 0x5c;
-    }
-    buffer[start..end].fill(0xaa);
-
-    let buffer_before = buffer.clone();
-    let input_before = input.to_vec();
+    let mut out = Surrounded::at(offset, 32);
+    let before = input.to_vec();
     // The pointer to the input comes from a mutable reference, so that a write to it would be
     // seen below.
-    // SAFETY: The pointer and the length are of one slice, and 32 bytes follow `start` in the
-    // buffer, which is not the input's.
-    let answer = unsafe {
-        mijdegen_digest(
-            input.as_mut_ptr().cast_const(),
-            input.len(),
-            buffer.as_mut_ptr().add(start),
-        )
-    };
-
-    assert!(input == input_before, "the input was changed");
-    assert_eq!(buffer[..start], buffer_before[..start], "before the output");
-    assert_eq!(buffer[end..], buffer_before[end..], "after the output");
-    let mut out = [0; 32];
-    out.copy_from_slice(&buffer[start..end]);
+    // SAFETY: The pointer and the length are of one slice, and the output has 32 bytes in a
+    // buffer of its own.
+    let answer =
+        unsafe { mijdegen_digest(input.as_mut_ptr().cast_const(), input.len(), out.start()) };
+    assert!(input == before, "the input was changed");
+    let out = out.contents("the output").try_into().expect("32 bytes");
     (answer, out)
 }
 

@@ -2,13 +2,10 @@
 
 mod common;
 
+use common::calls::mijdegen_layer;
 use common::Random;
 use mijdegen::{layer, Refusal, LONGEST};
 use std::ptr::{self, NonNull};
-
-extern "C" {
-    fn mijdegen_layer(input: *const u8, input_len: usize) -> u64;
-}
 
 /// Calls the C function and checks that the input stays as it was. Gives the answer.
 fn raw_layer(input: &mut [u8]) -> u64 {

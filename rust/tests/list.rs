@@ -2,23 +2,12 @@
 
 mod common;
 
-use common::calls::{compare_list, raw_list};
+use common::calls::{compare_list, mijdegen_list, raw_list};
 use common::forge::EMPTY;
 use common::sets::{set, sets_to, Kind, KINDS};
 use independent::table;
 use mijdegen::{list, Listed, Refusal, LONGEST, LONGEST_KEY};
 use std::ptr;
-
-extern "C" {
-    fn mijdegen_list(
-        reg: *const u8,
-        reg_len: usize,
-        n: u64,
-        out: *mut u8,
-        out_len: usize,
-        value: *mut u8,
-    ) -> u64;
-}
 
 /// Every record with outputs that are long enough, and with some that are too short.
 #[test]

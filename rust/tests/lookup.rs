@@ -2,50 +2,13 @@
 
 mod common;
 
-use common::calls::{compare_lookup, raw_lookup};
-use common::forge::{Page, EMPTY};
-use common::sets::{set, sets_to, Kind, KINDS};
+use common::calls::{compare_lookup, mijdegen_lookup, raw_lookup};
+use common::forge::{one_record, EMPTY};
+use common::sets::{keys_near, keys_with, set, sets_to, unlawful_keys, Kind, KINDS};
 use common::Random;
 use independent::{lawful, table, Set};
 use mijdegen::{lookup, lookup_place, Refusal, LONGEST};
 use std::ptr;
-
-extern "C" {
-    fn mijdegen_lookup(reg: *const u8, reg_len: usize, key: *const u8, key_len: usize) -> u64;
-}
-
-/// Keys that break the rule.
-fn unlawful_keys() -> Vec<Vec<u8>> {
-    let mut keys: Vec<Vec<u8>> = [
-        &b""[..],
-        b"/",
-        b"a",
-        b"ab",
-        b"a/",
-        b"/a",
-        b"//",
-        b"abc",
-        b"ab/",
-        b"/ab",
-        b"a//b",
-        b"a/b/c",
-        b"a/b1/",
-        b"a/b\0",
-        b"a/b\xc3\xa9",
-        b"a b/c",
-        b"a/b1\n",
-    ]
-    .iter()
-    .map(|key| key.to_vec())
-    .collect();
-    // A key of 256 bytes is the longest.
-    for length in [257, 258, 512, 65_536, LONGEST, LONGEST + 1] {
-        let mut key = vec![b'a'; length];
-        key[1] = b'/';
-        keys.push(key);
-    }
-    keys
-}
 
 /// What lookup gives by the set: 7 for an unlawful key, 12 for an absent one, else the value.
 fn by_set<'a>(set: &'a Set, key: &[u8]) -> Result<&'a [u8; 32], Refusal> {
@@ -103,21 +66,7 @@ fn keys_near_present_ones() {
     for (kind, set) in sets_to(10) {
         let register = table(&set);
         for key in set.keys() {
-            let mut near = Vec::new();
-            near.push(key[..key.len() - 1].to_vec());
-            near.push(key[1..].to_vec());
-            near.push(key[..key.len() / 2].to_vec());
-            for more in [&b"-"[..], b"~", b"0", b"/", b"\0"] {
-                near.push([key, more].concat());
-            }
-            for place in [0, key.len() / 2, key.len() - 1] {
-                for change in [1, 0xff, 0x20, random.below(256) as u8] {
-                    let mut changed = key.clone();
-                    changed[place] = changed[place].wrapping_add(change);
-                    near.push(changed);
-                }
-            }
-            for key in near {
+            for key in keys_near(&mut random, key) {
                 let expected = by_set(&set, &key);
                 assert_eq!(lookup(&register, &key), expected, "{kind:?} {key:?}");
                 let found = compare_lookup(&register, &key);
@@ -164,7 +113,7 @@ fn unlawful_keys_are_refused() {
             cases += 1;
         }
     }
-    assert_eq!(cases, KINDS.len() * 5 * 23);
+    assert_eq!(cases, KINDS.len() * 5 * 30);
     for key in unlawful_keys() {
         assert_eq!(compare_lookup(&EMPTY, &key), Err(7));
     }
@@ -176,19 +125,9 @@ fn each_byte_of_a_key() {
     let register = table(&set(Kind::Ordinary, 3));
     let (mut cases, mut lawful_bytes) = (0, 0);
     for byte in 0..=255_u8 {
-        let expected = if byte.is_ascii_alphanumeric() || b".-_:~".contains(&byte) {
-            lawful_bytes += 1;
-            12
-        } else {
-            7
-        };
-        // 4 places beside the slash.
-        for key in [
-            [byte, b'/', b'b', b'c'],
-            [b'a', byte, b'/', b'b'],
-            [b'a', b'/', byte, b'b'],
-            [b'a', b'/', b'b', byte],
-        ] {
+        lawful_bytes += usize::from(lawful(&[byte, b'/', b'b']));
+        for key in keys_with(byte) {
+            let expected = if lawful(&key) { 12 } else { 7 };
             assert_eq!(compare_lookup(&register, &key), Err(expected), "{key:?}");
             cases += 1;
         }
@@ -215,7 +154,7 @@ fn refused_registers() {
             cases += 1;
         }
     }
-    assert_eq!(cases, 4 * (23 + 1 + 10));
+    assert_eq!(cases, 4 * (30 + 1 + 10));
 }
 
 /// Lengths whose low 32 bits alone would be those of an accepted register and of a present key.
@@ -223,7 +162,7 @@ fn refused_registers() {
 #[cfg(target_pointer_width = "64")]
 #[test]
 fn lengths_over_32_bits() {
-    let register = Page::of_keys(&[b"a/b1"]).table();
+    let register = one_record();
     let mut key = vec![0; (1 << 32) + 4];
     key[..4].copy_from_slice(b"a/b1");
     assert_eq!(lookup(&register, &key), Err(Refusal::UnlawfulKey));
@@ -238,8 +177,7 @@ fn lengths_over_32_bits() {
 /// The key may be a part of the register, since both are only read.
 #[test]
 fn the_key_may_lie_in_the_register() {
-    let set = Set::from([(b"a/b1".to_vec(), [0x11; 32])]);
-    let register = table(&set);
+    let register = one_record();
     assert_eq!(lookup(&register, &register[8..12]), Ok(&[0x11; 32]));
     assert_eq!(lookup(&register, &register[8..11]), Err(Refusal::KeyAbsent));
     assert_eq!(lookup(&register, &register), Err(Refusal::UnlawfulKey));

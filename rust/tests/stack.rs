@@ -2,8 +2,12 @@
 
 mod common;
 
-use common::forge::{left_chain, link_to, longest_page, right_chain, Entry, Page};
-use common::sets::{set, KINDS};
+use common::forge::{left_chain, link_to, longest_page, right_chain, Entry, Page, EMPTY};
+use common::lists::{full_set, List};
+use common::sets::{
+    long_keys_in_turn, one_page_below_high, part, set, Kind, FULL_KINDS, HIGH, KINDS,
+};
+use common::writes::{expect_outcome, expect_table, Call};
 use common::Random;
 use independent::table;
 use mijdegen::{check, digest, layer, list, lookup, Refusal, LONGEST};
@@ -39,14 +43,21 @@ fn digest_and_layer() {
     assert_eq!(found, (Err(Refusal::TooLong), Err(Refusal::TooLong)));
 }
 
-/// Checks the register and looks for the key in it and for its record, on a small stack. Gives
-/// the number that is due, or 0.
-fn read_with_small_stack(register: Vec<u8>, key: &[u8], n: usize) -> u8 {
+/// Checks the register and looks for the key in it and for its record, on a small stack; then
+/// writes with it. Gives the number that is due, or 0.
+fn call_with_small_stack(register: Vec<u8>, key: &[u8], n: usize) -> u8 {
     // The expected results are made outside the small stack.
     let count = independent::check(&register);
     let place = independent::lookup(&register, key);
     let (mut key_out, mut value) = ([0; 256], [0; 32]);
     let length = independent::list(&register, n as u64, &mut key_out, &mut value);
+
+    let room = register.len() + 1_000;
+    write_with_small_stack(&register, Call::put(key, &[0x77; 32]), room);
+    write_with_small_stack(&register, Call::join(key, &[0x77; 32]), room);
+    write_with_small_stack(&register, Call::remove(key), room);
+    write_with_small_stack(&register, Call::merge(&register), room);
+    write_with_small_stack(&EMPTY, Call::merge(&register), room);
 
     let key = key.to_vec();
     let found = with_small_stack(move || {
@@ -67,6 +78,15 @@ fn read_with_small_stack(register: Vec<u8>, key: &[u8], n: usize) -> u8 {
     count.err().unwrap_or(0)
 }
 
+/// Runs the writing call on a small stack.
+fn write_with_small_stack(register: &[u8], call: Call, out_length: usize) {
+    // The expected result is made outside the small stack.
+    let mut output = vec![0; out_length];
+    let expected = call.independent(register, &mut output);
+    let register = register.to_vec();
+    with_small_stack(move || expect_outcome(&register, &call, expected, &output));
+}
+
 /// Registers of 4,096 records. Chains of layers are the deepest that are accepted.
 #[test]
 fn the_largest_registers() {
@@ -74,7 +94,7 @@ fn the_largest_registers() {
         for count in [2, 4_096] {
             let set = set(kind, count);
             let last = set.keys().next_back().expect("there are records");
-            let number = read_with_small_stack(table(&set), last, count - 1);
+            let number = call_with_small_stack(table(&set), last, count - 1);
             assert_eq!(number, 0, "{kind:?}");
         }
     }
@@ -92,7 +112,7 @@ fn the_deepest_inputs() {
         ] {
             let register = chain.table();
             // 129 pages of 31 entries are 3,999 records; more do not matter, since 3 goes first.
-            assert_eq!(read_with_small_stack(register, b"a/b1", 0), expected);
+            assert_eq!(call_with_small_stack(register, b"a/b1", 0), expected);
             cases += 1;
         }
     }
@@ -102,7 +122,7 @@ fn the_deepest_inputs() {
     let mut root = Page::of_keys(&[b"b/b1"]);
     root.left = link_to(left_chain(128));
     root.entries[0].after = link_to(right_chain(128, 31));
-    assert_eq!(read_with_small_stack(root.table(), b"b/b1", 1), 9);
+    assert_eq!(call_with_small_stack(root.table(), b"b/b1", 1), 9);
 
     // A chain whose keys are as long as lawful keys can be.
     let mut long = right_chain(129, 31);
@@ -114,39 +134,113 @@ fn the_deepest_inputs() {
         }
         page.spell(&keys);
     }
-    assert_eq!(read_with_small_stack(long.table(), b"b/b1", 1), 9);
+    assert_eq!(call_with_small_stack(long.table(), b"b/b1", 1), 9);
     // A page linked as deep as can be, with a digest that is wrong.
     let mut wrong = left_chain(129);
     wrong.left.as_mut().expect("a link").flip[0] = 1;
-    assert_eq!(read_with_small_stack(wrong.table(), b"b/b1", 1), 9);
+    assert_eq!(call_with_small_stack(wrong.table(), b"b/b1", 1), 9);
 }
 
 /// Inputs of the greatest length.
 #[test]
 fn the_longest_inputs() {
-    assert_eq!(read_with_small_stack(vec![0; LONGEST], b"a/b1", 0), 3);
-    assert_eq!(read_with_small_stack(vec![0; LONGEST + 1], b"a/b1", 0), 1);
+    assert_eq!(call_with_small_stack(vec![0; LONGEST], b"a/b1", 0), 3);
+    assert_eq!(call_with_small_stack(vec![0; LONGEST + 1], b"a/b1", 0), 1);
     for (entries, expected) in [(65, 6), (4_096, 6), (4_097, 5)] {
         let register = longest_page(entries).table();
         assert_eq!(register.len(), LONGEST);
-        assert_eq!(read_with_small_stack(register, b"a/b1", 0), expected);
+        assert_eq!(call_with_small_stack(register, b"a/b1", 0), expected);
     }
     // Right prefixes of keys that are too long.
     let mut page = longest_page(4_096);
     page.spell(&page.keys());
-    assert_eq!(read_with_small_stack(page.table(), b"a/b1", 0), 7);
+    assert_eq!(call_with_small_stack(page.table(), b"a/b1", 0), 7);
     // As many entries as a page can have, and many pages side by side.
     let mut page = Page {
         left: None,
         entries: vec![Entry::new(b"a/b1"); 65_535],
     };
-    assert_eq!(read_with_small_stack(page.table(), b"a/b1", 0), 5);
+    assert_eq!(call_with_small_stack(page.table(), b"a/b1", 0), 5);
     page.entries.truncate(40_000);
     for entry in &mut page.entries {
         entry.after = link_to(Page::default());
     }
-    assert_eq!(read_with_small_stack(page.table(), b"a/b1", 0), 5);
+    assert_eq!(call_with_small_stack(page.table(), b"a/b1", 0), 5);
     // The key argument is long.
     let register = table(&set(KINDS[0], 10));
-    assert_eq!(read_with_small_stack(register, &vec![b'a'; LONGEST], 0), 0);
+    assert_eq!(call_with_small_stack(register, &vec![b'a'; LONGEST], 0), 0);
+}
+
+/// Merges that give 4,096 records, of halves and of every second record, with the keys of the
+/// highest layers in one part, in both, or in none.
+#[test]
+fn the_largest_merges() {
+    let mut cases = 0;
+    for kind in KINDS {
+        let set = set(kind, 4_096);
+        let parts = [
+            (part(&set, |n| n < 2_048), part(&set, |n| n >= 2_048)),
+            (part(&set, |n| n % 2 == 0), part(&set, |n| n % 2 == 1)),
+        ];
+        let whole = table(&set);
+        for (one, other) in &parts {
+            let (first, call) = (table(one), Call::merge(&table(other)));
+            let whole = whole.clone();
+            with_small_stack(move || expect_table(&first, &call, whole.len(), &whole));
+            cases += 1;
+        }
+    }
+    assert_eq!(cases, KINDS.len() * 2);
+
+    // One page of long keys in which each key comes into a page of its own, below two others.
+    let set = long_keys_in_turn(&[3, 0], 2_000);
+    let whole = table(&set);
+    let first = table(&part(&set, |n| n % 2 == 1));
+    let call = Call::merge(&table(&part(&set, |n| n % 2 == 0)));
+    with_small_stack(move || expect_table(&first, &call, whole.len(), &whole));
+}
+
+/// The highest key that is known comes into one page of 4,095 keys of layer 0: 16 pages follow one
+/// another below the root. No deeper tree can be written, since no key of a higher layer is known.
+#[test]
+fn the_deepest_results() {
+    let low = one_page_below_high(4_095);
+    let one_page = table(&low);
+
+    let key = HIGH[0].as_bytes();
+    let mut with = low;
+    with.insert(key.to_vec(), [0x77; 32]);
+    let parted = table(&with);
+    with_small_stack(move || {
+        let put = Call::put(key, &[0x77; 32]);
+        expect_table(&one_page, &put, parted.len(), &parted);
+        expect_table(&parted, &Call::remove(key), one_page.len(), &one_page);
+    });
+}
+
+/// A deep register that is refused, as the second of a merge, behind a full one.
+#[test]
+fn a_full_register_and_a_deep_one() {
+    let full = table(&set(Kind::Ordinary, 4_096));
+    let mut cases = 0;
+    for chain in [left_chain(129), right_chain(129, 31), left_chain(130)] {
+        let call = Call::merge(&chain.table());
+        write_with_small_stack(&full, call, full.len());
+        cases += 1;
+    }
+    assert_eq!(cases, 3);
+}
+
+/// Lists of calls on full registers: what the plain map answers is known before they run.
+#[test]
+fn lists_of_calls() {
+    let mut random = Random::new(2);
+    let mut cases = 0;
+    for kind in FULL_KINDS {
+        let (start, source) = full_set(kind);
+        let list = List::draw(&mut random, &source, &start, 15);
+        let counts = with_small_stack(move || list.run());
+        cases += counts.iter().sum::<usize>();
+    }
+    assert_eq!(cases, 4 * 15);
 }

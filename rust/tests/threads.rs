@@ -2,7 +2,8 @@
 
 mod common;
 
-use common::sets::value;
+use common::lists::{List, Source};
+use common::sets::{set, value, Kind};
 use common::Random;
 use independent::{table, Set};
 use mijdegen::{check, digest, layer, list, lookup_place, Listed, Refusal};
@@ -38,6 +39,29 @@ fn reading_calls_at_the_same_time() {
                 for _ in 0..200 {
                     for (register, key, expected) in &cases {
                         assert_eq!(results(register, key), *expected);
+                    }
+                }
+            });
+        }
+    });
+}
+
+#[test]
+fn writing_calls_at_the_same_time() {
+    // 4 threads with 4 lists of 60 calls each, all different. What the calls answer is known
+    // before they run side by side, 3 times each.
+    thread::scope(|scope| {
+        for seed in 1..=4 {
+            scope.spawn(move || {
+                let mut random = Random::new(20 + seed);
+                let source = Source::new(set(Kind::Ordinary, 40).into_keys());
+                let lists = [0; 4].map(|_| {
+                    let start = source.set(&mut random, 40);
+                    List::draw(&mut random, &source, &start, 60)
+                });
+                for _ in 0..3 {
+                    for list in &lists {
+                        assert_eq!(list.run().iter().sum::<usize>(), 60);
                     }
                 }
             });

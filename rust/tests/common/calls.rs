@@ -1,21 +1,62 @@
 //! The C functions with a watch on their buffers, and the comparison of the three reading calls
 //! with the crate `independent`.
 
+use super::forge::EMPTY;
 use super::hexadecimal;
+use super::writes::{expect_refusal, expect_table, Call};
 use independent::sha256;
 use mijdegen::{check, list, lookup, lookup_place, Listed, Refusal};
 
 extern "C" {
-    fn mijdegen_check(reg: *const u8, reg_len: usize) -> u64;
-    fn mijdegen_lookup(reg: *const u8, reg_len: usize, key: *const u8, key_len: usize) -> u64;
-    // The value is declared as a pointer to bytes, since here it lies within a longer buffer.
-    fn mijdegen_list(
+    // Outputs of 32 bytes are declared as pointers to bytes, since here they lie within longer
+    // buffers.
+    pub fn mijdegen_digest(input: *const u8, input_len: usize, out: *mut u8) -> u64;
+    pub fn mijdegen_layer(input: *const u8, input_len: usize) -> u64;
+    pub fn mijdegen_check(reg: *const u8, reg_len: usize) -> u64;
+    pub fn mijdegen_lookup(reg: *const u8, reg_len: usize, key: *const u8, key_len: usize) -> u64;
+    pub fn mijdegen_list(
         reg: *const u8,
         reg_len: usize,
         n: u64,
         out: *mut u8,
         out_len: usize,
         value: *mut u8,
+    ) -> u64;
+    pub fn mijdegen_put(
+        reg: *const u8,
+        reg_len: usize,
+        key: *const u8,
+        key_len: usize,
+        value: *const u8,
+        value_len: usize,
+        out: *mut u8,
+        out_len: usize,
+    ) -> u64;
+    pub fn mijdegen_join(
+        reg: *const u8,
+        reg_len: usize,
+        key: *const u8,
+        key_len: usize,
+        value: *const u8,
+        value_len: usize,
+        out: *mut u8,
+        out_len: usize,
+    ) -> u64;
+    pub fn mijdegen_remove(
+        reg: *const u8,
+        reg_len: usize,
+        key: *const u8,
+        key_len: usize,
+        out: *mut u8,
+        out_len: usize,
+    ) -> u64;
+    pub fn mijdegen_merge(
+        first: *const u8,
+        first_len: usize,
+        second: *const u8,
+        second_len: usize,
+        out: *mut u8,
+        out_len: usize,
     ) -> u64;
 }
 
@@ -82,7 +123,7 @@ pub fn raw_list(register: &mut [u8], n: u64, out_length: usize) -> (u64, Vec<u8>
 }
 
 /// Bytes 0xAA, with other bytes before and after them.
-struct Surrounded {
+pub struct Surrounded {
     buffer: Vec<u8>,
     before: Vec<u8>,
     start: usize,
@@ -90,10 +131,15 @@ struct Surrounded {
 }
 
 impl Surrounded {
-    fn new(length: usize) -> Surrounded {
+    /// Gives so many bytes. Their number also decides how the first of them is aligned.
+    pub fn new(length: usize) -> Surrounded {
+        Surrounded::at(length % 16, length)
+    }
+
+    /// Gives so many bytes, the first of them moved by the offset.
+    pub fn at(offset: usize, length: usize) -> Surrounded {
         const AROUND: usize = 64;
-        // The length also decides how the start is aligned.
-        let start = AROUND + length % 16;
+        let start = AROUND + offset;
         let end = start + length;
         let mut buffer: Vec<u8> = (0..end + AROUND).map(|place| place as u8 ^ 0x5c).collect();
         buffer[start..end].fill(0xaa);
@@ -106,12 +152,12 @@ impl Surrounded {
     }
 
     /// Gives a pointer to the first of the bytes.
-    fn start(&mut self) -> *mut u8 {
+    pub fn start(&mut self) -> *mut u8 {
         self.buffer[self.start..].as_mut_ptr()
     }
 
     /// Gives the bytes, after a check that those around them stayed as they were.
-    fn contents(self, name: &str) -> Vec<u8> {
+    pub fn contents(self, name: &str) -> Vec<u8> {
         let (start, end) = (self.start, self.end);
         assert!(
             self.buffer[..start] == self.before[..start],
@@ -126,7 +172,8 @@ impl Surrounded {
 }
 
 /// Compares check, lookup and list with the independent crate, by the safe and by the C
-/// functions. Gives the number that is due on the register, or 0 where it is accepted.
+/// functions. Looks at the writing calls as well, as far as they judge the register. Gives the
+/// number that is due on the register, or 0 where it is accepted.
 pub fn number_of(register: &[u8]) -> u8 {
     let expected = independent::check(register);
     let found = check(register).map_err(Refusal::number);
@@ -163,10 +210,22 @@ fn compare_refused(register: &[u8], number: u8) {
         let zeros = (u64::from(number), vec![0; length], [0; 32]);
         assert_eq!(raw_list(&mut lent, n, length), zeros, "record {n}");
     }
+
+    // The writing calls take turns, and each is handed another fault that comes later.
+    let calls = [
+        Call::put(b"ab", b""),
+        Call::join(b"a/b1", &[0x11; 31]),
+        Call::remove(b"a/b1"),
+        Call::merge(b""),
+    ];
+    let turn = &calls[register.len() % calls.len()];
+    expect_refusal(register, turn, register.len() % 100, number);
+    // As the second register it is judged behind a first one that is accepted.
+    expect_refusal(&EMPTY, &Call::merge(register), 7, number);
 }
 
 /// The last record is found and listed, in all but large registers also the first and the middle
-/// one, and the register is the one of its set.
+/// one, and the register is the one of its set and the one that the library writes.
 fn compare_accepted(register: &[u8], count: usize) {
     let set = independent::set_of(register).expect("the register is accepted");
     assert_eq!(set.len(), count);
@@ -191,6 +250,9 @@ fn compare_accepted(register: &[u8], count: usize) {
     let found = compare_lookup(register, b"a/b1");
     assert_eq!(found.is_ok(), set.contains_key(&b"a/b1"[..]));
     assert_eq!(compare_lookup(register, b"ab"), Err(7));
+
+    // Merged with itself it is written anew.
+    expect_table(register, &Call::merge(register), register.len(), register);
 }
 
 /// Compares lookup with the independent crate, by the safe and by the C functions. Gives the

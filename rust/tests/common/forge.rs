@@ -3,13 +3,45 @@
 //! The bytes are written here another way than in the crate `independent`, and the tests compare
 //! the two on lawful sets.
 
-use independent::{sha256, tree, tree_of, Set, LONGEST};
+use super::sets::{set, set_of_layers, Kind};
+use independent::{sha256, table, tree, tree_of, Set, LONGEST};
 
 /// The nine bytes with which each link begins.
 pub const LINK: &[u8; 9] = b"\xd8\x2a\x58\x25\x00\x01\x71\x12\x20";
 
 /// The empty register.
 pub const EMPTY: [u8; 7] = [0xa2, 0x61, 0x65, 0x80, 0x61, 0x6c, 0xf6];
+
+/// The register of `a/b1` with a value of 32 bytes `11`, as the scope writes it.
+pub fn one_record() -> Vec<u8> {
+    let mut register = vec![
+        0xa2, 0x61, 0x65, 0x81, 0xa4, 0x61, 0x6b, 0x44, 0x61, 0x2f, 0x62, 0x31, 0x61, 0x70, 0x00,
+        0x61, 0x74, 0xf6, 0x61, 0x76, 0xd8, 0x2a, 0x58, 0x25, 0x00, 0x01, 0x71, 0x12, 0x20,
+    ];
+    register.extend([0x11; 32]);
+    register.extend([0x61, 0x6c, 0xf6]);
+    register
+}
+
+/// The scope's small examples of the numbers 1 to 10, in this order.
+pub fn faulty_registers() -> [Vec<u8>; 10] {
+    let mut wrong_prefix = Page::of_keys(&[b"a/b1"]);
+    wrong_prefix.entries[0].prefix = 1;
+    let mut wrong_digest = Page::of_set(&set_of_layers(&[0, 1]));
+    wrong_digest.left.as_mut().expect("a link").flip[0] = 0x80;
+    [
+        vec![0; LONGEST + 1],
+        EMPTY[..6].to_vec(),
+        vec![0xa2, 0x61, 0x6c],
+        [&EMPTY[..], &[0xf6]].concat(),
+        table(&set(Kind::Ordinary, 4_097)),
+        wrong_prefix.table(),
+        Page::of_keys(&[b"ab"]).table(),
+        Page::of_keys(&[b"a/b2", b"a/b1"]).table(),
+        Page::above(Page::of_keys(&[b"a/b1"])).table(),
+        wrong_digest.table(),
+    ]
+}
 
 /// A page, with the pages below it.
 #[derive(Clone, Default)]

@@ -5,7 +5,9 @@
 
 pub mod calls;
 pub mod forge;
+pub mod lists;
 pub mod sets;
+pub mod writes;
 
 /// A xorshift generator of 64 bits. A fixed seed gives the same cases in every run.
 pub struct Random(u64);
@@ -35,6 +37,13 @@ impl Random {
     /// Gives one of the items.
     pub fn one_of<'a, T>(&mut self, items: &'a [T]) -> &'a T {
         &items[self.below(items.len())]
+    }
+
+    /// Puts the items into another order.
+    pub fn shuffle<T>(&mut self, items: &mut [T]) {
+        for last in (1..items.len()).rev() {
+            items.swap(self.below(last + 1), last);
+        }
     }
 
     /// Gives this many bytes.

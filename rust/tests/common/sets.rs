@@ -1,7 +1,7 @@
 //! Sets of records of several kinds.
 
 use super::Random;
-use independent::{lawful, layer, Set};
+use independent::{lawful, layer, Set, LONGEST};
 
 /// The counts of records that the tests try.
 pub const COUNTS: [usize; 8] = [0, 1, 2, 3, 10, 100, 1_000, 4_096];
@@ -33,6 +33,14 @@ pub const KINDS: [Kind; 7] = [
     Kind::Mixed,
     Kind::OnePage,
     Kind::Chains,
+    Kind::Alternating,
+];
+
+/// The kinds of which the writing calls are tried on full registers, since those take long.
+pub const FULL_KINDS: [Kind; 4] = [
+    Kind::Ordinary,
+    Kind::SharedPrefix,
+    Kind::OnePage,
     Kind::Alternating,
 ];
 
@@ -75,7 +83,7 @@ pub fn set(kind: Kind, count: usize) -> Set {
                 let length = 3 + random.below(254);
                 mixed(&mut random, length)
             }
-            Kind::OnePage => find(&mut random, ordinary, 0),
+            Kind::OnePage => ordinary_of_layer(&mut random, 0),
             Kind::Chains if set.len() < 2 * HIGH.len() && set.len() % 2 == 0 => {
                 HIGH[set.len() / 2].as_bytes().to_vec()
             }
@@ -102,6 +110,157 @@ pub fn sets_to(most: usize) -> Vec<(Kind, Set)> {
     sets
 }
 
+/// Gives the records of the set whose number in key order, from 0, is wanted.
+pub fn part(set: &Set, wanted: impl Fn(usize) -> bool) -> Set {
+    let records = set.iter().enumerate();
+    records
+        .filter(|(n, _)| wanted(*n))
+        .map(|(_, (key, value))| (key.clone(), *value))
+        .collect()
+}
+
+/// Gives the records of the set whose keys have the layer.
+pub fn of_layer(set: &Set, wanted: u8) -> Set {
+    let records = set.iter().filter(|(key, _)| layer(key) == wanted);
+    records.map(|(key, value)| (key.clone(), *value)).collect()
+}
+
+/// Gives so many records of layer 0 with keys among those of high layers: one page.
+pub fn one_page_below_high(count: usize) -> Set {
+    let set = of_layer(&set(Kind::Chains, count + 2 * HIGH.len()), 0);
+    part(&set, |n| n < count)
+}
+
+/// Gives the trees that are published with the format, each with the digest of its root page.
+pub fn published_trees() -> [(Set, &'static str); 3] {
+    let value = [
+        0x9d, 0x15, 0x6b, 0xc3, 0xf3, 0xa5, 0x20, 0x06, 0x62, 0x52, 0xc7, 0x08, 0xa9, 0x36, 0x1f,
+        0xd3, 0xd0, 0x89, 0x22, 0x38, 0x42, 0x50, 0x0e, 0x37, 0x13, 0xd4, 0x04, 0xfd, 0xcc, 0xb3,
+        0x3c, 0xef,
+    ];
+    let set = |names: &[&str]| {
+        names
+            .iter()
+            .map(|name| (format!("com.example.record/{name}").into_bytes(), value))
+            .collect()
+    };
+    [
+        (
+            set(&[]),
+            "9dfefe61dd76ea3dcae5023880b08379d57adf20482d6fdbe2759289f647677b",
+        ),
+        (
+            set(&["3jqfcqzm3fo2j"]),
+            "29e2e42d820d8d5e77f6ec8b4ae746b1a72d86cfcbb20700b35ed6c1e982791d",
+        ),
+        (
+            set(&[
+                "3jqfcqzm3fp2j",
+                "3jqfcqzm3fr2j",
+                "3jqfcqzm3fs2j",
+                "3jqfcqzm3ft2j",
+                "3jqfcqzm4fc2j",
+            ]),
+            "4c01f12871beb16977775a6786f463f9fc33866c7997fbe9f5bf6946610ad0fb",
+        ),
+    ]
+}
+
+/// Gives keys that break the rule and are short enough for an entry of a page.
+pub fn short_unlawful_keys() -> Vec<Vec<u8>> {
+    let keys: [&[u8]; 24] = [
+        b"",
+        b"/",
+        b"a",
+        b"ab",
+        b"a/",
+        b"/a",
+        b"//",
+        b"abc",
+        b"ab/",
+        b"/ab",
+        b"a//b",
+        b"a/b/c",
+        b"/a/b",
+        b"a/b/",
+        b"a/b1/",
+        b"a/b c",
+        b"a b/c",
+        b"a/b\0",
+        b"\0/a",
+        b"a/b1\n",
+        b"a\\b",
+        b"a/b\xff",
+        b"a/\xc3\xa9",
+        b"a/b\xc3\xa9",
+    ];
+    keys.iter().map(|key| key.to_vec()).collect()
+}
+
+/// Gives keys that break the rule, those among them that are too long.
+pub fn unlawful_keys() -> Vec<Vec<u8>> {
+    let mut keys = short_unlawful_keys();
+    // A key of 256 bytes is the longest.
+    for length in [257, 258, 512, 65_536, LONGEST, LONGEST + 1] {
+        let mut key = vec![b'a'; length];
+        key[1] = b'/';
+        keys.push(key);
+    }
+    keys
+}
+
+/// Gives keys with the byte at each of 4 places beside the slash.
+pub fn keys_with(byte: u8) -> [[u8; 4]; 4] {
+    [
+        [byte, b'/', b'b', b'c'],
+        [b'a', byte, b'/', b'b'],
+        [b'a', b'/', byte, b'b'],
+        [b'a', b'/', b'b', byte],
+    ]
+}
+
+/// Gives 20 keys that differ little from the key: shorter, longer, and with another byte. Some of
+/// them are unlawful.
+pub fn keys_near(random: &mut Random, key: &[u8]) -> Vec<Vec<u8>> {
+    let mut near = vec![
+        key[..key.len() - 1].to_vec(),
+        key[1..].to_vec(),
+        key[..key.len() / 2].to_vec(),
+    ];
+    for more in [&b"-"[..], b"~", b"0", b"/", b"\0"] {
+        near.push([key, more].concat());
+    }
+    for place in [0, key.len() / 2, key.len() - 1] {
+        for change in [1, 0xff, 0x20, random.below(256) as u8] {
+            let mut changed = key.to_vec();
+            changed[place] = changed[place].wrapping_add(change);
+            near.push(changed);
+        }
+    }
+    near
+}
+
+/// Gives all rows of 1 to 5 layers from 0 to 2, and of 2 and 3 layers from 0 to 4: 513 rows.
+pub fn rows_of_few_layers() -> Vec<Vec<u8>> {
+    fn rows(length: usize, highest: u8) -> Vec<Vec<u8>> {
+        let mut rows = vec![vec![]];
+        for _ in 0..length {
+            let longer = rows.iter().flat_map(|row| {
+                (0..=highest).map(move |layer| [row.as_slice(), &[layer]].concat())
+            });
+            rows = longer.collect();
+        }
+        rows
+    }
+    let sizes = [(1, 2), (2, 2), (3, 2), (4, 2), (5, 2), (2, 4), (3, 4)];
+    let rows: Vec<_> = sizes
+        .into_iter()
+        .flat_map(|(length, highest)| rows(length, highest))
+        .collect();
+    assert_eq!(rows.len(), 3 + 9 + 27 + 81 + 243 + 25 + 125);
+    rows
+}
+
 /// Gives a random value.
 pub fn value(random: &mut Random) -> [u8; 32] {
     random.bytes(32).try_into().expect("32 bytes")
@@ -115,6 +274,29 @@ pub fn set_of_layers(layers: &[u8]) -> Set {
         .iter()
         .map(|wanted| (next_of_layer(&mut number, *wanted), value(&mut random)))
         .collect()
+}
+
+/// Gives so many keys of 256 bytes in order, with these layers in turn. They share the first 240
+/// bytes, and neighbours more.
+pub fn long_keys_in_turn(layers: &[u8], count: usize) -> Set {
+    let mut random = Random::new(101);
+    let start = [&[b'a'; 100][..], b"/", &[b'b'; 139]].concat();
+    (0..count)
+        .map(|place| {
+            let wanted = layers[place % layers.len()];
+            let key = (0..)
+                .map(|number| [&start[..], format!("{place:08}{number:08}").as_bytes()].concat())
+                .find(|key| layer(key) == wanted)
+                .expect("there is always a further key");
+            assert_eq!(key.len(), 256);
+            (key, value(&mut random))
+        })
+        .collect()
+}
+
+/// Gives an ordinary key of this layer.
+pub fn ordinary_of_layer(random: &mut Random, wanted: u8) -> Vec<u8> {
+    find(random, ordinary, wanted)
 }
 
 /// Gives the next key of this layer, in key order.

@@ -1,0 +1,235 @@
+//! The four writing calls as one type, and their comparison with the crate `independent`.
+
+use super::calls::{
+    answer, mijdegen_join, mijdegen_merge, mijdegen_put, mijdegen_remove, shown, Surrounded,
+};
+use independent::{Set, LONGEST};
+use mijdegen::Refusal;
+use std::fmt;
+
+/// A writing call with what it is handed besides the register held and the output.
+#[derive(Clone, PartialEq)]
+pub enum Call {
+    Put { key: Vec<u8>, value: Vec<u8> },
+    Join { key: Vec<u8>, value: Vec<u8> },
+    Remove { key: Vec<u8> },
+    Merge { second: Vec<u8> },
+}
+
+impl Call {
+    pub fn put(key: &[u8], value: &[u8]) -> Call {
+        Call::Put {
+            key: key.to_vec(),
+            value: value.to_vec(),
+        }
+    }
+
+    pub fn join(key: &[u8], value: &[u8]) -> Call {
+        Call::Join {
+            key: key.to_vec(),
+            value: value.to_vec(),
+        }
+    }
+
+    pub fn remove(key: &[u8]) -> Call {
+        Call::Remove { key: key.to_vec() }
+    }
+
+    pub fn merge(second: &[u8]) -> Call {
+        Call::Merge {
+            second: second.to_vec(),
+        }
+    }
+
+    /// Calls the safe function.
+    pub fn safe(&self, register: &[u8], out: &mut [u8]) -> Result<usize, u8> {
+        let result = match self {
+            Call::Put { key, value } => mijdegen::put(register, key, value, out),
+            Call::Join { key, value } => mijdegen::join(register, key, value, out),
+            Call::Remove { key } => mijdegen::remove(register, key, out),
+            Call::Merge { second } => mijdegen::merge(register, second, out),
+        };
+        result.map_err(Refusal::number)
+    }
+
+    /// Calls the C function with an output of so many bytes 0xAA inside a longer buffer. Checks
+    /// that the bytes around the output and all inputs stay as they were. Gives the answer and
+    /// the output.
+    pub fn raw(&self, register: &[u8], out_length: usize) -> (u64, Vec<u8>) {
+        // The pointers come from mutable references, so that a write would be seen below.
+        fn lent(bytes: &mut [u8]) -> *const u8 {
+            bytes.as_mut_ptr().cast_const()
+        }
+        let mut out = Surrounded::new(out_length);
+        let mut copy = register.to_vec();
+        let mut handed = self.clone();
+        let (reg, reg_len) = (lent(&mut copy), copy.len());
+        // SAFETY: Each pointer has as many bytes as the library is told, and the output is in a
+        // buffer of its own.
+        let answer = unsafe {
+            match &mut handed {
+                Call::Put { key, value } => mijdegen_put(
+                    reg,
+                    reg_len,
+                    lent(key),
+                    key.len(),
+                    lent(value),
+                    value.len(),
+                    out.start(),
+                    out_length,
+                ),
+                Call::Join { key, value } => mijdegen_join(
+                    reg,
+                    reg_len,
+                    lent(key),
+                    key.len(),
+                    lent(value),
+                    value.len(),
+                    out.start(),
+                    out_length,
+                ),
+                Call::Remove { key } => {
+                    mijdegen_remove(reg, reg_len, lent(key), key.len(), out.start(), out_length)
+                }
+                Call::Merge { second } => mijdegen_merge(
+                    reg,
+                    reg_len,
+                    lent(second),
+                    second.len(),
+                    out.start(),
+                    out_length,
+                ),
+            }
+        };
+        assert!(copy == register, "the register was changed by {self:?}");
+        assert!(handed == *self, "an argument was changed by {self:?}");
+        (answer, out.contents("the output"))
+    }
+
+    /// Calls the function of the independent crate.
+    pub fn independent(&self, register: &[u8], out: &mut [u8]) -> Result<usize, u8> {
+        match self {
+            Call::Put { key, value } => independent::put(register, key, value, out),
+            Call::Join { key, value } => independent::join(register, key, value, out),
+            Call::Remove { key } => independent::remove(register, key, out),
+            Call::Merge { second } => independent::merge(register, second, out),
+        }
+    }
+
+    /// Does to a plain set what the call does to its register, or gives the number that is due on
+    /// what the call is handed.
+    pub fn change(&self, set: Set) -> Result<Set, u8> {
+        match self {
+            Call::Put { key, value } => independent::put_in(set, key, value),
+            Call::Join { key, value } => independent::join_in(set, key, value),
+            Call::Remove { key } => independent::remove_from(set, key),
+            Call::Merge { second } => {
+                let second = independent::set_of(second)?;
+                Ok(independent::merge_in(set, &second))
+            }
+        }
+    }
+}
+
+/// Keys are written as text, but long ones and other bytes as `shown` writes them.
+impl fmt::Debug for Call {
+    fn fmt(&self, formatter: &mut fmt::Formatter) -> fmt::Result {
+        let text = |key: &[u8]| match key.len() {
+            0..=300 => key.escape_ascii().to_string(),
+            _ => shown(key),
+        };
+        match self {
+            Call::Put { key, value } => write!(formatter, "put {} {}", text(key), shown(value)),
+            Call::Join { key, value } => write!(formatter, "join {} {}", text(key), shown(value)),
+            Call::Remove { key } => write!(formatter, "remove {}", text(key)),
+            Call::Merge { second } => write!(formatter, "merge {}", shown(second)),
+        }
+    }
+}
+
+/// Expects the answer and the whole output, by the safe and by the C function. Gives what the
+/// library wrote.
+pub fn expect_outcome(
+    register: &[u8],
+    call: &Call,
+    expected: Result<usize, u8>,
+    output: &[u8],
+) -> Vec<u8> {
+    let length = output.len();
+    let told = || format!("{call:?}, output {length}, on {}", shown(register));
+
+    let (found, out) = call.raw(register, length);
+    assert_eq!(found, answer(expected), "C function: {}", told());
+    assert!(out == output, "output of the C function: {}", told());
+
+    let mut out = vec![0xaa; length];
+    let found = call.safe(register, &mut out);
+    assert_eq!(found, expected, "{}", told());
+    assert!(out == output, "output: {}", told());
+    out
+}
+
+/// Expects the table and zeros after it, in an output of this length.
+pub fn expect_table(register: &[u8], call: &Call, out_length: usize, table: &[u8]) {
+    let mut output = table.to_vec();
+    output.resize(out_length, 0);
+    expect_outcome(register, call, Ok(table.len()), &output);
+}
+
+/// Expects the number and zeros alone, in an output of this length.
+pub fn expect_refusal(register: &[u8], call: &Call, out_length: usize, number: u8) {
+    expect_outcome(register, call, Err(number), &vec![0; out_length]);
+}
+
+/// Compares the call with the independent crate for an output of this length: the answer and
+/// every byte of the output, by the safe and by the C function. Gives the table's length.
+pub fn compare_call(register: &[u8], call: &Call, out_length: usize) -> Result<usize, u8> {
+    let mut output = vec![0x55; out_length];
+    let expected = call.independent(register, &mut output);
+    expect_outcome(register, call, expected, &output);
+    expected
+}
+
+/// Compares the call with the independent crate for outputs that are just long enough, longer,
+/// one byte too short and empty. Gives the table.
+pub fn compare_lengths(register: &[u8], call: &Call) -> Result<Vec<u8>, u8> {
+    let table = independent::set_of(register)
+        .and_then(|set| call.change(set))
+        .and_then(|set| independent::result_table(&set, LONGEST));
+    match &table {
+        Ok(table) => {
+            let length = table.len();
+            assert_eq!(compare_call(register, call, length), Ok(length));
+            expect_table(register, call, length + 1 + length % 90, table);
+            for short in [length - 1, 0] {
+                expect_refusal(register, call, short, 13);
+            }
+        }
+        Err(number) => {
+            assert_eq!(compare_call(register, call, 300), Err(*number));
+            expect_refusal(register, call, 0, *number);
+        }
+    }
+    table
+}
+
+/// Calls the safe function with an output that has room. Gives the table.
+pub fn written(register: &[u8], call: &Call) -> Vec<u8> {
+    // Most results have room where the inputs would stand twice, and the others are tried again.
+    let handed = match call {
+        Call::Merge { second } => second.len(),
+        Call::Put { key, .. } | Call::Join { key, .. } | Call::Remove { key } => key.len(),
+    };
+    for room in [2 * (register.len() + handed) + 1_000, LONGEST] {
+        let mut out = vec![0xaa; room];
+        match call.safe(register, &mut out) {
+            Ok(length) => {
+                assert!(out[length..].iter().all(|byte| *byte == 0), "{call:?}");
+                out.truncate(length);
+                return out;
+            }
+            Err(number) => assert_eq!(number, 13, "{call:?} on {}", shown(register)),
+        }
+    }
+    panic!("no room for the result of {call:?} on {}", shown(register));
+}

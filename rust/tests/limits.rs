@@ -1,0 +1,205 @@
+//! The writing calls around 4,096 records, and the longest tables.
+
+mod common;
+
+use common::sets::{part, set, value, Kind, FULL_KINDS};
+use common::writes::{expect_refusal, expect_table, Call};
+use common::Random;
+use independent::{layer, merge_in, table, Set, LONGEST};
+
+/// The greatest count of records, one less and one more.
+const COUNTS: [usize; 3] = [4_095, 4_096, 4_097];
+
+/// Expects the table of so many records, by an output that is just long enough, or number 5 where
+/// there is one too many.
+fn expect_count(register: &[u8], call: &Call, count: usize, table: &[u8]) {
+    if count > 4_096 {
+        expect_refusal(register, call, table.len(), 5);
+    } else {
+        expect_table(register, call, table.len(), table);
+    }
+}
+
+/// A new key that gives 4,095 records, 4,096 or one too many.
+#[test]
+fn put_and_join() {
+    let mut cases = 0;
+    for kind in FULL_KINDS {
+        for count in COUNTS {
+            let all = set(kind, count);
+            let whole = table(&all);
+            // The new key stands first, in the middle and last.
+            for n in [0, 2_048, count - 1] {
+                let register = table(&part(&all, |other| other != n));
+                let (key, value) = all.iter().nth(n).expect("a record");
+                for call in [Call::put(key, value), Call::join(key, value)] {
+                    expect_count(&register, &call, count, &whole);
+                    cases += 1;
+                }
+            }
+        }
+    }
+    assert_eq!(cases, FULL_KINDS.len() * 3 * 3 * 2);
+}
+
+/// A present key gives no further record, where there are 4,095 and where there are 4,096.
+#[test]
+fn present_keys() {
+    let mut cases = 0;
+    for kind in FULL_KINDS {
+        for count in [4_095, 4_096] {
+            let mut set = set(kind, count);
+            let register = table(&set);
+            let key = set.keys().nth(count / 3).expect("a key").clone();
+            // The value is greater than each random one.
+            set.insert(key.clone(), [0xff; 32]);
+            let greater = table(&set);
+            for call in [Call::put(&key, &[0xff; 32]), Call::join(&key, &[0xff; 32])] {
+                expect_table(&register, &call, greater.len(), &greater);
+                expect_refusal(&register, &call, greater.len() - 1, 13);
+                cases += 2;
+            }
+            let less = Call::join(&key, &[0; 32]);
+            expect_table(&greater, &less, greater.len() + 9, &greater);
+            cases += 1;
+        }
+    }
+    assert_eq!(cases, FULL_KINDS.len() * 2 * 5);
+}
+
+/// From 4,096 records and from 4,095.
+#[test]
+fn remove() {
+    let mut cases = 0;
+    for kind in FULL_KINDS {
+        for count in [4_095, 4_096] {
+            let set = set(kind, count);
+            let register = table(&set);
+            for n in [0, count / 2, count - 1] {
+                let key = set.keys().nth(n).expect("a key");
+                let others = table(&part(&set, |other| other != n));
+                expect_table(&register, &Call::remove(key), others.len(), &others);
+                cases += 1;
+            }
+            expect_refusal(&register, &Call::remove(b"a/b1"), 100, 12);
+            cases += 1;
+        }
+    }
+    assert_eq!(cases, FULL_KINDS.len() * 2 * 4);
+}
+
+/// Says by a record's number in key order whether it stands in a part of a set.
+type Wanted = fn(usize) -> bool;
+
+/// Two parts that are together 4,095 records, 4,096 or one too many.
+#[test]
+fn merge() {
+    // Halves, every second record, all but one, and parts with about 1,900 in common.
+    let parts: [[Wanted; 2]; 4] = [
+        [|n| n < 2_048, |n| n >= 2_048],
+        [|n| n % 2 == 0, |n| n % 2 == 1],
+        [|n| n != 77, |n| n == 77],
+        [|n| n < 3_000, |n| n >= 1_096],
+    ];
+    let mut cases = 0;
+    for kind in FULL_KINDS {
+        for count in COUNTS {
+            let all = set(kind, count);
+            let whole = table(&all);
+            for [one, other] in parts {
+                let (first, second) = (table(&part(&all, one)), table(&part(&all, other)));
+                for (first, second) in [(&first, &second), (&second, &first)] {
+                    expect_count(first, &Call::merge(second), count, &whole);
+                    cases += 1;
+                }
+            }
+        }
+    }
+    assert_eq!(cases, FULL_KINDS.len() * 3 * 4 * 2);
+}
+
+/// 4,096 records with some of them, with all of them, with other values of all of them, and with
+/// as many others.
+#[test]
+fn merge_of_full_registers() {
+    let mut random = Random::new(92);
+    let mut cases = 0;
+    for kind in FULL_KINDS {
+        let full = set(kind, 4_096);
+        let register = table(&full);
+        for second in [table(&part(&full, |n| n % 100 == 0)), register.clone()] {
+            let call = Call::merge(&second);
+            expect_table(&register, &call, register.len(), &register);
+            expect_refusal(&register, &call, register.len() - 1, 13);
+            cases += 2;
+        }
+        let mut other_values = full.clone();
+        for other in other_values.values_mut() {
+            *other = value(&mut random);
+        }
+        let call = Call::merge(&table(&other_values));
+        let greater = table(&merge_in(full, &other_values));
+        expect_table(&register, &call, greater.len(), &greater);
+        cases += 1;
+    }
+    assert_eq!(cases, FULL_KINDS.len() * 5);
+
+    let (one, other) = (set(Kind::Ordinary, 4_096), set(Kind::Mixed, 4_096));
+    assert!(one.keys().all(|key| !other.contains_key(key)));
+    let call = Call::merge(&table(&other));
+    expect_refusal(&table(&one), &call, 3_000_000, 5);
+    expect_refusal(&table(&one), &call, 0, 5);
+}
+
+/// Keys of 256 bytes that share few of them, of layers 3 and 0 in turn: below each entry of the
+/// root stand two pages without entries and one with a record. A longer table would need higher
+/// layers, and one over the greatest length layers of about 31, which no search finds.
+fn long_table(count: usize) -> Set {
+    let mut random = Random::new(91);
+    (0..count)
+        .map(|number| {
+            let wanted = if number % 2 == 0 { 3 } else { 0 };
+            let mut key = format!("{number:04}/{:0>251}", random.next()).into_bytes();
+            while layer(&key) != wanted {
+                let number = format!("{:020}", random.next());
+                key[236..].copy_from_slice(number.as_bytes());
+            }
+            assert_eq!(key.len(), 256);
+            (key, value(&mut random))
+        })
+        .collect()
+}
+
+#[test]
+fn the_longest_tables() {
+    let all = long_table(4_096);
+    let whole = table(&all);
+    assert!(whole.len() > 1_500_000, "{}", whole.len());
+    assert_eq!(mijdegen::check(&whole), Ok(4_096));
+
+    let mut cases = 0;
+    // The new record is of layer 3, then of layer 0.
+    for n in [2_048, 2_049] {
+        let others = table(&part(&all, |m| m != n));
+        let (key, value) = all.iter().nth(n).expect("a record");
+        for call in [Call::put(key, value), Call::join(key, value)] {
+            expect_table(&others, &call, whole.len(), &whole);
+            expect_refusal(&others, &call, whole.len() - 1, 13);
+            expect_table(&others, &call, LONGEST, &whole);
+            expect_table(&others, &call, LONGEST + 1, &whole);
+            cases += 4;
+        }
+        expect_table(&whole, &Call::remove(key), others.len(), &others);
+        cases += 1;
+    }
+    let odd = table(&part(&all, |n| n % 2 == 1));
+    let even = table(&part(&all, |n| n % 2 == 0));
+    for (first, second) in [(&odd, &even), (&even, &odd), (&whole, &odd)] {
+        let call = Call::merge(second);
+        expect_table(first, &call, whole.len(), &whole);
+        expect_refusal(first, &call, whole.len() - 1, 13);
+        expect_refusal(first, &call, whole.len() / 2, 13);
+        cases += 3;
+    }
+    assert_eq!(cases, 2 * 9 + 3 * 3);
+}

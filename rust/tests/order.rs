@@ -1,0 +1,158 @@
+//! The order in which the numbers are judged: with several faults at once the first one is
+//! answered.
+
+mod common;
+
+use common::forge::{faulty_registers, one_record, EMPTY};
+use common::sets::{set, Kind};
+use common::writes::{expect_outcome, expect_refusal, Call};
+use independent::{table, Set};
+
+const VALUE: [u8; 32] = [0x11; 32];
+
+/// Expects the first number that is due, or the table where there is none.
+fn expect_first(register: &[u8], call: &Call, out_length: usize, due: &[Option<u8>], table: &[u8]) {
+    let mut output = vec![0; out_length];
+    let first = due.iter().flatten().next();
+    let expected = match first {
+        Some(number) => Err(*number),
+        None => {
+            output[..table.len()].copy_from_slice(table);
+            Ok(table.len())
+        }
+    };
+    expect_outcome(register, call, expected, &output);
+}
+
+/// Gives the scope's example of each number and registers that are accepted, each with the number
+/// that is due.
+fn registers(accepted: &[Vec<u8>]) -> Vec<(Vec<u8>, Option<u8>)> {
+    let faulty = faulty_registers().into_iter().zip((1..).map(Some));
+    let mut registers: Vec<_> = faulty.collect();
+    registers.extend(accepted.iter().map(|register| (register.clone(), None)));
+    registers
+}
+
+/// A register of 4,096 records.
+fn full() -> Set {
+    set(Kind::Ordinary, 4_096)
+}
+
+/// Register, key, value, count, output: all combinations of faults.
+#[test]
+fn put_and_join() {
+    let full = table(&full());
+    let mut cases = 0;
+    for (register, number) in registers(&[EMPTY.to_vec(), full.clone()]) {
+        // A new key is one too many where there are 4,096 records.
+        let count = (register == full).then_some(5);
+        for (key, unlawful) in [(&b"a/b1"[..], None), (b"ab", Some(7)), (b"", Some(7))] {
+            for (value, other_length) in [
+                (&VALUE[..], None),
+                (&VALUE[..31], Some(11)),
+                (b"", Some(11)),
+            ] {
+                for (out_length, no_room) in [(64, None), (63, Some(13)), (0, Some(13))] {
+                    let due = [number, unlawful, other_length, count, no_room];
+                    for call in [Call::put(key, value), Call::join(key, value)] {
+                        expect_first(&register, &call, out_length, &due, &one_record());
+                        cases += 1;
+                    }
+                }
+            }
+        }
+    }
+    assert_eq!(cases, (10 + 2) * 3 * 3 * 3 * 2);
+}
+
+/// Register, key, absence, output: all combinations of faults. A register of 4,096 records has
+/// no number 5, whether the key is there or not.
+#[test]
+fn remove() {
+    let mut full = full();
+    full.pop_first();
+    full.insert(b"a/b1".to_vec(), VALUE);
+    let full_table = table(&full);
+    full.remove(&b"a/b1"[..]);
+    let without = table(&full);
+
+    let mut cases = 0;
+    for (register, number) in registers(&[one_record(), full_table.clone()]) {
+        let expected = match register == full_table {
+            true => &without[..],
+            false => &EMPTY,
+        };
+        let length = expected.len();
+        for (key, due_on_key) in [
+            (&b"a/b1"[..], None),
+            (b"a/b3", Some(12)),
+            (b"ab", Some(7)),
+            (b"", Some(7)),
+        ] {
+            for (out_length, no_room) in [(length, None), (length - 1, Some(13)), (0, Some(13))] {
+                let due = [number, due_on_key, no_room];
+                expect_first(&register, &Call::remove(key), out_length, &due, expected);
+                cases += 1;
+            }
+        }
+    }
+    assert_eq!(cases, (10 + 2) * 4 * 3);
+}
+
+/// First register, second register, count, output: all combinations of faults.
+#[test]
+fn merge() {
+    let full = table(&full());
+    let mut cases = 0;
+    for (first, first_number) in registers(&[EMPTY.to_vec(), full.clone()]) {
+        for (second, second_number) in registers(&[one_record()]) {
+            let count = (first == full).then_some(5);
+            for (out_length, no_room) in [(64, None), (63, Some(13)), (0, Some(13))] {
+                let due = [first_number, second_number, count, no_room];
+                let call = Call::merge(&second);
+                expect_first(&first, &call, out_length, &due, &one_record());
+                cases += 1;
+            }
+        }
+    }
+    assert_eq!(cases, (10 + 2) * (10 + 1) * 3);
+
+    // The second register is the full one.
+    let mut cases = 0;
+    for (first, number) in registers(&[one_record()]) {
+        for out_length in [0, 64, full.len() + 100] {
+            let call = Call::merge(&full);
+            expect_refusal(&first, &call, out_length, number.unwrap_or(5));
+            cases += 1;
+        }
+    }
+    assert_eq!(cases, (10 + 1) * 3);
+}
+
+/// The count that results is judged behind what is handed over and before the output.
+#[test]
+fn the_count_between_its_neighbours() {
+    let full_set = full();
+    let full = table(&full_set);
+    let room = full.len() + 1_000;
+    // 11 before 5, and 5 before 13.
+    for call in [
+        Call::put(b"a/b1", &VALUE[1..]),
+        Call::join(b"a/b1", &VALUE[1..]),
+    ] {
+        expect_refusal(&full, &call, room, 11);
+    }
+    for call in [Call::put(b"a/b1", &VALUE), Call::join(b"a/b1", &VALUE)] {
+        expect_refusal(&full, &call, room, 5);
+        expect_refusal(&full, &call, 0, 5);
+    }
+    // 12 where a put of the same key would have 5.
+    expect_refusal(&full, &Call::remove(b"a/b1"), room, 12);
+    expect_refusal(&full, &Call::remove(b"a/b1"), 0, 12);
+    // A present key is not one too many, and the output is judged.
+    let key = full_set.keys().next().expect("there are records");
+    for call in [Call::put(key, &VALUE), Call::join(key, &VALUE)] {
+        expect_refusal(&full, &call, full.len() - 1, 13);
+    }
+    expect_refusal(&full, &Call::merge(&full), full.len() - 1, 13);
+}

@@ -1,0 +1,184 @@
+//! Outputs of every length, and the buffers of the writing calls at their limits.
+
+mod common;
+
+use common::calls::{mijdegen_join, mijdegen_merge, mijdegen_put, mijdegen_remove};
+use common::forge::{one_record, EMPTY};
+use common::sets::{part, set, set_of_layers, Kind};
+use common::writes::{expect_refusal, expect_table, Call};
+use independent::{table, Set, LONGEST};
+use mijdegen::{join, merge, put, remove, Refusal};
+use std::ptr;
+
+const VALUE: [u8; 32] = [0x11; 32];
+
+/// Gives the four calls on registers of the set, each with its register and its result. Where a
+/// record is new or goes away, it is the n-th.
+fn calls(set: &Set, n: usize) -> Vec<(Vec<u8>, Call, Vec<u8>)> {
+    let whole = table(set);
+    let others = table(&part(set, |other| other != n));
+    let odd = table(&part(set, |n| n % 2 == 1));
+    let even = table(&part(set, |n| n % 2 == 0));
+    let (key, value) = set.iter().nth(n).expect("n is less than the count");
+    vec![
+        (others.clone(), Call::put(key, value), whole.clone()),
+        (others.clone(), Call::join(key, value), whole.clone()),
+        (whole.clone(), Call::remove(key), others),
+        (odd, Call::merge(&even), whole),
+    ]
+}
+
+/// The table is written into what remains of the output after the pages before it: no room is
+/// found at any of its pages, and the output is wholly zero.
+#[test]
+fn every_length_of_the_output() {
+    let sets = [
+        set_of_layers(&[0]),
+        set_of_layers(&[0, 1, 0]),
+        set_of_layers(&[0, 2]),
+        set_of_layers(&[0, 0, 1, 0, 3, 1]),
+        set(Kind::Chains, 3),
+        set(Kind::SharedPrefix, 3),
+        set(Kind::Ordinary, 10),
+    ];
+    let (mut cases, mut lengths) = (0, 0);
+    for set in &sets {
+        for (register, call, result) in calls(set, set.len() / 2) {
+            for length in 0..result.len() {
+                expect_refusal(&register, &call, length, 13);
+                cases += 1;
+            }
+            for length in result.len()..result.len() + 70 {
+                expect_table(&register, &call, length, &result);
+                cases += 1;
+            }
+            lengths += result.len() + 70;
+        }
+    }
+    assert_eq!(cases, lengths);
+    assert_eq!(cases, 18_026);
+}
+
+/// Outputs around the greatest length of a table and longer ones: all that follows is zero.
+#[test]
+fn very_long_outputs() {
+    let mut cases = 0;
+    for set in [set_of_layers(&[0, 1, 0]), set(Kind::Ordinary, 100)] {
+        for (register, call, result) in calls(&set, 1) {
+            for length in [LONGEST - 1, LONGEST, LONGEST + 1, LONGEST + 1_000] {
+                expect_table(&register, &call, length, &result);
+                // The same call on the first page alone is refused.
+                expect_refusal(&register[..5], &call, length, 2);
+                cases += 2;
+            }
+        }
+    }
+    assert_eq!(cases, 2 * 4 * 4 * 2);
+}
+
+/// The inputs may lie at any address, and other bytes may stand around them.
+#[test]
+fn any_address() {
+    let set = set(Kind::Ordinary, 10);
+    let whole = table(&set);
+    let others = table(&part(&set, |n| n != 4));
+    let (key, value) = set.iter().nth(4).expect("there are 10");
+    let mut cases = 0;
+    for offset in 0..16 {
+        // 3 bytes that stand around them; the last could be the start of a page.
+        for around in [0x00, 0xff, 0xa2] {
+            let [register, key, value, second] = [&others[..], key, value, &whole]
+                .map(|bytes| [&vec![around; offset][..], bytes, &[around; 16]].concat());
+            let [register, key, value, second] =
+                [&register, &key, &value, &second].map(|buffer| &buffer[offset..buffer.len() - 16]);
+
+            let mut out = vec![0xaa; whole.len()];
+            assert_eq!(put(register, key, value, &mut out), Ok(whole.len()));
+            assert!(out == whole, "put at {offset}");
+            assert_eq!(join(register, key, value, &mut out), Ok(whole.len()));
+            assert!(out == whole, "join at {offset}");
+            assert_eq!(merge(register, second, &mut out), Ok(whole.len()));
+            assert!(out == whole, "merge at {offset}");
+            out.truncate(others.len());
+            assert_eq!(remove(second, key, &mut out), Ok(others.len()));
+            assert!(out == others, "remove at {offset}");
+            cases += 4;
+        }
+    }
+    assert_eq!(cases, 16 * 3 * 4);
+}
+
+/// Lengths whose low 32 bits alone would be those of what is wanted. Most of the memory is never
+/// written, so the system only sets addresses aside.
+#[cfg(target_pointer_width = "64")]
+#[test]
+fn lengths_over_32_bits() {
+    let mut long = vec![0; (1 << 32) + 64];
+    let mut out = [0xaa; 64];
+    let refused = |result: Result<usize, Refusal>, refusal: Refusal, out: &mut [u8; 64]| {
+        assert_eq!(result, Err(refusal));
+        assert_eq!(*out, [0; 64]);
+        out.fill(0xaa);
+    };
+
+    long[..7].copy_from_slice(&EMPTY);
+    let register = &long[..(1 << 32) + 7];
+    let too_long = Refusal::TooLong;
+    refused(put(register, b"a/b1", &VALUE, &mut out), too_long, &mut out);
+    refused(
+        join(register, b"a/b1", &VALUE, &mut out),
+        too_long,
+        &mut out,
+    );
+    refused(remove(register, b"a/b1", &mut out), too_long, &mut out);
+    refused(merge(register, &EMPTY, &mut out), too_long, &mut out);
+    refused(merge(&EMPTY, register, &mut out), too_long, &mut out);
+
+    long[..4].copy_from_slice(b"a/b1");
+    let key = &long[..(1 << 32) + 4];
+    let unlawful = Refusal::UnlawfulKey;
+    refused(put(&EMPTY, key, &VALUE, &mut out), unlawful, &mut out);
+    refused(join(&EMPTY, key, &VALUE, &mut out), unlawful, &mut out);
+    refused(remove(&one_record(), key, &mut out), unlawful, &mut out);
+
+    let value = &long[..(1 << 32) + 32];
+    let other_length = Refusal::ValueLength;
+    refused(
+        put(&EMPTY, b"a/b1", value, &mut out),
+        other_length,
+        &mut out,
+    );
+    refused(
+        join(&EMPTY, b"a/b1", value, &mut out),
+        other_length,
+        &mut out,
+    );
+}
+
+#[test]
+fn raw_calls_do_not_touch_empty_buffers() {
+    let register = one_record();
+    let (reg, reg_len) = (register.as_ptr(), register.len());
+    let (key, value) = (b"a/b1".as_ptr(), VALUE.as_ptr());
+    let (none, no_out) = (ptr::null(), ptr::null_mut());
+    let mut out = [0xaa; 64];
+    // SAFETY: A buffer of length 0 is neither read nor written, and the others are whole.
+    unsafe {
+        for call in [mijdegen_put, mijdegen_join] {
+            assert_eq!(call(none, 0, none, 0, none, 0, no_out, 0), 2);
+            assert_eq!(call(reg, reg_len, none, 0, none, 0, no_out, 0), 7);
+            assert_eq!(call(reg, reg_len, key, 4, none, 0, no_out, 0), 11);
+            assert_eq!(call(reg, reg_len, key, 4, value, 32, no_out, 0), 13);
+            assert_eq!(call(none, 0, key, 4, value, 32, out.as_mut_ptr(), 64), 2);
+            assert_eq!(out, [0; 64]);
+            out.fill(0xaa);
+        }
+        assert_eq!(mijdegen_remove(none, 0, none, 0, no_out, 0), 2);
+        assert_eq!(mijdegen_remove(reg, reg_len, none, 0, no_out, 0), 7);
+        assert_eq!(mijdegen_remove(reg, reg_len, key, 4, no_out, 0), 13);
+        assert_eq!(mijdegen_merge(none, 0, none, 0, no_out, 0), 2);
+        assert_eq!(mijdegen_merge(reg, reg_len, none, 0, no_out, 0), 2);
+        assert_eq!(mijdegen_merge(none, 0, reg, reg_len, no_out, 0), 2);
+        assert_eq!(mijdegen_merge(reg, reg_len, reg, reg_len, no_out, 0), 13);
+    }
+}

@@ -1,0 +1,309 @@
+//! `put` and `join` against the independent crate and against the sets themselves.
+
+mod common;
+
+use common::forge::{one_record, EMPTY};
+use common::sets::{
+    keys_near, keys_with, part, set, set_of_layers, sets_to, unlawful_keys, Kind, KINDS,
+};
+use common::writes::{compare_call, compare_lengths, expect_refusal, expect_table, written, Call};
+use common::Random;
+use independent::{lawful, lookup, table, Set};
+
+/// The two calls with the same record.
+fn both(key: &[u8], value: &[u8]) -> [Call; 2] {
+    [Call::put(key, value), Call::join(key, value)]
+}
+
+#[test]
+fn rows_of_the_scope() {
+    let longest = [&[b'a'; 100][..], b"/", &[b'b'; 155]].concat();
+    assert_eq!(longest.len(), 256);
+    let mut cases = 0;
+    for call in both(b"a/b1", &[0x11; 32]) {
+        expect_table(&EMPTY, &call, 64, &one_record());
+        expect_table(&EMPTY, &call, 65, &one_record());
+        expect_refusal(&EMPTY, &call, 63, 13);
+        cases += 3;
+    }
+    for call in both(&longest, &[0x11; 32]) {
+        // 252 bytes of the key more than `a/b1` has, and 2 more for the length.
+        assert_eq!(compare_call(&EMPTY, &call, 400), Ok(64 + 252 + 2));
+        cases += 1;
+    }
+    for call in both(&[&longest[..], b"b"].concat(), &[0x11; 32]) {
+        expect_refusal(&EMPTY, &call, 400, 7);
+        cases += 1;
+    }
+    assert_eq!(cases, 2 * 5);
+}
+
+/// Each record of a set, where all others are there already.
+#[test]
+fn each_record_into_the_others() {
+    let mut cases = 0;
+    for (kind, set) in sets_to(100) {
+        let whole = table(&set);
+        for (n, (key, value)) in set.iter().enumerate() {
+            let others = table(&part(&set, |other| other != n));
+            for call in both(key, value) {
+                expect_table(&others, &call, whole.len(), &whole);
+                if set.len() <= 10 {
+                    let found = compare_lengths(&others, &call);
+                    assert!(found.as_ref() == Ok(&whole), "{kind:?} {n}");
+                }
+                cases += 1;
+            }
+        }
+    }
+    assert_eq!(cases, KINDS.len() * (1 + 2 + 3 + 10 + 100) * 2);
+}
+
+/// Each record of a set with another value: put takes it, join only where it is greater.
+#[test]
+fn present_keys() {
+    let mut cases = 0;
+    for (kind, set) in sets_to(10) {
+        let register = table(&set);
+        for (key, value) in &set {
+            for other in [[0x00; 32], [0xff; 32], *value] {
+                let mut changed = set.clone();
+                changed.insert(key.clone(), other);
+                let found = compare_lengths(&register, &Call::put(key, &other));
+                assert!(found == Ok(table(&changed)), "{kind:?}");
+
+                changed.insert(key.clone(), *value.max(&other));
+                let found = compare_lengths(&register, &Call::join(key, &other));
+                assert!(found == Ok(table(&changed)), "{kind:?}");
+                cases += 2;
+            }
+        }
+    }
+    assert_eq!(cases, KINDS.len() * (1 + 2 + 3 + 10) * 6);
+}
+
+/// Keys that differ little from present ones.
+#[test]
+fn keys_near_present_ones() {
+    let mut random = Random::new(51);
+    let (mut cases, mut done) = (0, 0);
+    for (_, set) in sets_to(10) {
+        let register = table(&set);
+        for key in set.keys() {
+            for near in keys_near(&mut random, key) {
+                let expected = if lawful(&near) { None } else { Some(7) };
+                for call in both(&near, &[0x77; 32]) {
+                    let found = compare_lengths(&register, &call);
+                    assert_eq!(found.as_ref().err(), expected.as_ref());
+                    done += usize::from(found.is_ok());
+                    cases += 1;
+                }
+            }
+        }
+    }
+    assert_eq!(cases, KINDS.len() * (1 + 2 + 3 + 10) * 20 * 2);
+    assert!(done > 1_000 && done < cases - 1_000);
+}
+
+/// Keys before the first record and after the last, and records all over larger registers.
+#[test]
+fn keys_into_larger_registers() {
+    let mut random = Random::new(52);
+    let mut cases = 0;
+    for kind in KINDS {
+        let set = set(kind, 1_000);
+        let register = table(&set);
+        let mut keys = vec![b"-/-".to_vec(), b"~/~".to_vec()];
+        for key in set.keys().step_by(333) {
+            let near = keys_near(&mut random, key);
+            keys.push(near.into_iter().find(|key| lawful(key)).expect("a key"));
+        }
+        for key in keys {
+            let mut changed = set.clone();
+            changed.insert(key.clone(), [0x77; 32]);
+            let expected = table(&changed);
+            for call in both(&key, &[0x77; 32]) {
+                expect_table(&register, &call, expected.len(), &expected);
+                cases += 1;
+            }
+        }
+    }
+    assert_eq!(cases, KINDS.len() * (2 + 4) * 2);
+}
+
+/// Two values that differ at one place, where the bytes behind it say the opposite.
+#[test]
+fn the_greater_value_byte_by_byte() {
+    let register_with = |value: &[u8; 32]| {
+        let mut set = set_of_layers(&[0, 1, 0]);
+        let key = set.keys().nth(1).expect("there are 3").clone();
+        set.insert(key.clone(), *value);
+        (table(&set), key)
+    };
+    let mut cases = 0;
+    for place in 0..32 {
+        for (lesser_byte, greater_byte) in [(0, 1), (0x7f, 0x80), (0xfe, 0xff), (0, 0xff)] {
+            let mut lesser = [0x55; 32];
+            let mut greater = lesser;
+            lesser[place] = lesser_byte;
+            greater[place] = greater_byte;
+            lesser[place + 1..].fill(0xff);
+            greater[place + 1..].fill(0x00);
+
+            let (with_lesser, key) = register_with(&lesser);
+            let (with_greater, _) = register_with(&greater);
+            for (register, value) in [(&with_lesser, &greater), (&with_greater, &lesser)] {
+                let found = compare_lengths(register, &Call::join(&key, value));
+                assert!(found.as_ref() == Ok(&with_greater), "place {place}");
+            }
+            // Merge joins as well, in both directions.
+            for (first, second) in [(&with_lesser, &with_greater), (&with_greater, &with_lesser)] {
+                let found = compare_lengths(first, &Call::merge(second));
+                assert!(found.as_ref() == Ok(&with_greater), "place {place}");
+            }
+            // Put takes what it is handed.
+            let found = compare_lengths(&with_greater, &Call::put(&key, &lesser));
+            assert!(found.as_ref() == Ok(&with_lesser), "place {place}");
+            cases += 5;
+        }
+    }
+    assert_eq!(cases, 32 * 4 * 5);
+}
+
+#[test]
+fn values_of_other_lengths() {
+    let registers = [
+        EMPTY.to_vec(),
+        one_record(),
+        table(&set(Kind::Ordinary, 10)),
+    ];
+    let lengths = (0..=100).filter(|length| *length != 32);
+    let mut cases = 0;
+    for length in lengths.chain([256 + 32, 65_536 + 32, 4_194_304, 4_194_336]) {
+        let value = vec![0x11; length];
+        for register in &registers {
+            for call in both(b"a/b1", &value) {
+                assert_eq!(compare_call(register, &call, 70), Err(11), "{length}");
+                cases += 1;
+            }
+        }
+    }
+    assert_eq!(cases, (100 + 4) * 3 * 2);
+}
+
+#[test]
+fn unlawful_keys_are_refused() {
+    let mut cases = 0;
+    for (_, set) in sets_to(3) {
+        let register = table(&set);
+        for key in unlawful_keys() {
+            for call in both(&key, &[0x11; 32]) {
+                expect_refusal(&register, &call, 100, 7);
+                cases += 1;
+            }
+        }
+    }
+    assert_eq!(cases, KINDS.len() * 4 * 30 * 2);
+}
+
+/// Each byte beside the slash: the record is put where it is lawful, else 7.
+#[test]
+fn each_byte_of_a_key() {
+    let register = table(&set(Kind::Ordinary, 3));
+    let mut cases = 0;
+    for byte in 0..=255_u8 {
+        for key in keys_with(byte) {
+            for call in both(&key, &[0x77; 32]) {
+                let found = compare_call(&register, &call, 1_000);
+                assert_eq!(found.is_ok(), lawful(&key), "{key:?}");
+                assert!(found.is_ok() || found == Err(7), "{key:?}");
+                cases += 1;
+            }
+        }
+    }
+    assert_eq!(cases, 256 * 4 * 2);
+}
+
+/// A key of each length into the empty register and, in both orders, into one register.
+#[test]
+fn each_length_of_keys() {
+    let key = |length: usize| {
+        let mut key = vec![b'k'; length];
+        key[1] = b'/';
+        key
+    };
+    let mut cases = 0;
+    for length in 3..=256 {
+        let call = Call::put(&key(length), &[length as u8; 32]);
+        compare_lengths(&EMPTY, &call).expect("the key is lawful");
+        cases += 1;
+    }
+    let all: Set = (3..=256)
+        .map(|length| (key(length), [length as u8; 32]))
+        .collect();
+    for falling in [false, true] {
+        let mut register = EMPTY.to_vec();
+        for step in 0..254 {
+            let length = if falling { 256 - step } else { 3 + step };
+            let call = Call::put(&key(length), &[length as u8; 32]);
+            register = written(&register, &call);
+            cases += 1;
+        }
+        assert!(register == table(&all));
+    }
+    assert_eq!(cases, 254 * 3);
+}
+
+/// A page that grows over the counts of 23, 24, 255 and 256 entries, at any of its places.
+#[test]
+fn each_count_of_entries() {
+    let mut random = Random::new(53);
+    let all = set(Kind::OnePage, 300);
+    let mut records: Vec<_> = all.iter().collect();
+    random.shuffle(&mut records);
+    let (mut register, mut grown) = (EMPTY.to_vec(), Set::new());
+    for (key, value) in records {
+        let call = Call::put(key, value);
+        grown.insert(key.clone(), *value);
+        let expected = table(&grown);
+        expect_table(&register, &call, expected.len() + 3, &expected);
+        register = expected;
+    }
+    assert_eq!(grown.len(), 300);
+    assert!(register == table(&all));
+}
+
+/// Values of every kind are written as they are, also those that look like parts of a page.
+#[test]
+fn every_value_is_taken() {
+    let mut values = [[0x00; 32], [0xff; 32], [0xf6; 32], [0xa2; 32], [0; 32]];
+    values[4][..7].copy_from_slice(&EMPTY);
+    let register = table(&set_of_layers(&[0, 1, 0, 2]));
+    let mut cases = 0;
+    for value in values {
+        for call in both(b"a/b1", &value) {
+            let found = compare_lengths(&register, &call).expect("there is room");
+            let place = lookup(&found, b"a/b1").expect("the key is present");
+            assert_eq!(found[place..place + 32], value);
+            cases += 1;
+        }
+    }
+    assert_eq!(cases, 5 * 2);
+}
+
+/// The key and the value may be parts of the register, since all of them are only read.
+#[test]
+fn the_key_and_the_value_may_lie_in_the_register() {
+    let register = one_record();
+    let (key, value) = (&register[8..12], &register[29..61]);
+    let mut out = [0xaa; 64];
+    assert_eq!(mijdegen::put(&register, key, value, &mut out), Ok(64));
+    assert_eq!(out[..], register);
+    // The value is the last bytes of the link and the next ones.
+    let value = &register[24..56];
+    assert_eq!(mijdegen::put(&register, key, value, &mut out), Ok(64));
+    assert_eq!(out[29..61], *value);
+    // It is less than the one that is there, since it begins with 00.
+    assert_eq!(mijdegen::join(&register, key, value, &mut out), Ok(64));
+    assert_eq!(out[..], register);
+}
