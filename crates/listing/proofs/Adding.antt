@@ -7,7 +7,7 @@ use native.Mathlib.Numerals.{add-one}
 use lib.ListN.{length, take, getD, set, length-append, length-set}
 use lib.Seq.{paste, paste-suc, take-all, take-paste, length-paste, take-suc-set}
 use borrow.Author.Tests.{lt-ltb, le-ltb}
-use Rattle.register.specs.Listing.{digits, lineFeed}
+use Rattle.promises.specs.Listing.{digits, lineFeed}
 use Rattle.listing.specs.Text.{Wrote, Adds}
 use Rattle.listing.specs.declared.text.Written.{Written}
 use Rattle.listing.specs.declared.text.Written.the-variants.{Text, NoRoom}

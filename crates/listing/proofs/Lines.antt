@@ -11,7 +11,7 @@ use Rattle.row.specs.Row.{recordOf, recordsOf}
 use Rattle.row.specs.Memory.{Recalls}
 use Rattle.row.specs.declared.recall.Recalled.{Recalled}
 use Rattle.row.proofs.Rows.{source-same, records-none, records-more, records-split}
-use Rattle.register.specs.Listing.{hexDigit, hexadecimal, space, lineFeed, recordLines}
+use Rattle.promises.specs.Listing.{hexDigit, hexadecimal, space, lineFeed, recordLines}
 use Rattle.listing.specs.Text.{Adds, lineEnd, LineEndSays, lineOf, LineSays}
 use Rattle.listing.specs.declared.text.Written.{Written}
 use Rattle.listing.specs.declared.text.Written.the-variants.{Text, NoRoom}

@@ -12,7 +12,7 @@ use Rattle.tree.specs.Judge.{refused, judge}
 use Rattle.index.specs.Walk.{AcceptedIndex}
 use Rattle.row.specs.Row.{Row, recordsOf}
 use Rattle.row.proofs.Rows.{accepted-short, accepted-row, accepted-records}
-use Rattle.register.specs.Listing.{decimal, space, lineFeed, recordLines, listingOf, refusalLine, listingVerdict, listing}
+use Rattle.promises.specs.Listing.{decimal, space, lineFeed, recordLines, listingOf, refusalLine, listingVerdict, listing}
 use Rattle.listing.specs.Text.{Wrote, Adds}
 use Rattle.listing.specs.declared.text.Written.{Written}
 use Rattle.listing.specs.declared.text.Written.the-variants.{Text, NoRoom}

@@ -6,7 +6,7 @@ use lib.ListN.{length, take, drop}
 use Rattle.tree.specs.Record.{Record}
 use Rattle.row.specs.Row.{recordOf}
 use Rattle.row.specs.Memory.{Remembers}
-use Rattle.register.specs.Listing.{hexadecimal, space, lineFeed}
+use Rattle.promises.specs.Listing.{hexadecimal, space, lineFeed}
 use Rattle.listing.specs.declared.text.Written.{Written}
 use Rattle.listing.specs.declared.text.Written.the-variants.{Text, NoRoom}
 

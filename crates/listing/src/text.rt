@@ -8,7 +8,7 @@ ghost use Prim.Native.Nat.{_^_, _<_};
 ghost use lib.ListN.{length};
 ghost use Rattle.row.specs.Row.{Stands, Row, recordsOf};
 ghost use Rattle.row.specs.Memory.{Remembers};
-ghost use Rattle.register.specs.Listing.{decimal, digits, hexDigit, lineFeed, recordLines, listing};
+ghost use Rattle.promises.specs.Listing.{decimal, digits, hexDigit, lineFeed, recordLines, listing};
 ghost use Rattle.listing.specs.Text.{Wrote, Adds, LineEndSays, LineSays};
 
 // A text's length, or that there is no room for it.

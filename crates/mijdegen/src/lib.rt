@@ -4,7 +4,7 @@ ghost use Rattle.answer.specs.Answer.{encoded};
 ghost use Rattle.sha256.specs.Digest.{digestAnswer, digestOutput};
 ghost use Rattle.key.specs.Layer.{layerAnswer};
 ghost use lib.ListN.{length};
-ghost use Rattle.register.specs.Outcome.{checkAnswer, lookupAnswer, listOutcome, listAnswer, listKey, listValue, putOutcome, joinOutcome, removeOutcome, mergeOutcome, answerOf, outputOf};
+ghost use Rattle.promises.specs.Outcome.{checkAnswer, lookupAnswer, listOutcome, listAnswer, listKey, listValue, putOutcome, joinOutcome, removeOutcome, mergeOutcome, answerOf, outputOf};
 
 #[no_mangle]
 pub extern "C" fn mijdegen_digest(input: &[u8], out: &mut [u8; 32]) -> u64

@@ -25,7 +25,7 @@ use Rattle.index.specs.declared.Register.{Register}
 use Rattle.index.specs.declared.Register.the-variants.{Accepted, Refused as Unfit}
 use Rattle.index.proofs.SlotLaws.{slots-places}
 use Rattle.index.proofs.Standing.{accepted-slots-stand, value-within}
-use Rattle.register.specs.Outcome.{placeOf, lookupAnswer, lookupVerdict, answerPlace}
+use Rattle.promises.specs.Outcome.{placeOf, lookupAnswer, lookupVerdict, answerPlace}
 use Rattle.register.specs.Search.{placeFound, SearchSays}
 use Rattle.register.specs.declared.search.Searched.{Searched}
 use Rattle.register.specs.declared.search.Searched.the-variants.{At, Absent}

@@ -29,15 +29,15 @@ use Rattle.index.proofs.SlotLaws.{slots-length, slots-places}
 use Rattle.row.specs.Row.{nothing, recordOf, Stands, Row, recordsOf}
 use Rattle.row.proofs.Rows.{records-length, accepted-short, word-small, accepted-row, accepted-records, second-row, second-records}
 use Rattle.writer.specs.Output.{tableAnswer, tableOutput}
-use Rattle.register.specs.Map.{find, remove}
-use Rattle.register.specs.Outcome.{Outcome, stopped, placeOf, answerOf, outputOf, removeOutcome, mergeOutcome}
+use Rattle.promises.specs.Map.{find, remove}
+use Rattle.promises.specs.Outcome.{Outcome, stopped, placeOf, answerOf, outputOf, removeOutcome, mergeOutcome}
 use Rattle.register.specs.Search.{SearchSays}
 use Rattle.register.specs.Choice.{choiceOf, weave, wovenOf, RowOf, ChooseSays, Below, ToSecond, LeftOut, Single, written, setOutcome}
 use Rattle.register.specs.declared.choose.Chosen.{Chosen}
 use Rattle.register.specs.declared.choose.Chosen.the-variants.{Count, TooMany}
 use Rattle.register.specs.declared.search.Searched.{Searched}
 use Rattle.register.specs.declared.search.Searched.the-variants.{At, Absent}
-use Rattle.register.proofs.MapLaws.{Sorted, rising-sorted}
+use Rattle.promises.proofs.MapLaws.{Sorted, rising-sorted}
 use Rattle.register.proofs.Weaving.{weave-merge, remove-at, find-at}
 use Rattle.register.proofs.Choosing.{all-first, first-at, all-drop, records-slice, records-front}
 use Rattle.register.proofs.Answering.{none≢some, not-right, not-wrong}

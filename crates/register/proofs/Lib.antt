@@ -1,9 +1,3 @@
-pub mod MapLaws
-pub mod MergeLaws
-pub mod Steps
-pub mod DifferenceLaws
-pub mod OpenedLaws
-pub mod Promises
 pub mod Outputs
 pub mod Verdicts
 pub mod Listings

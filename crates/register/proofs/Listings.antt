@@ -27,8 +27,8 @@ use Rattle.index.specs.Walk.{AcceptedIndex, Indexes, blank}
 use Rattle.index.specs.Standing.{SlotAt}
 use Rattle.index.proofs.SlotLaws.{slots-length, slot-record}
 use Rattle.index.proofs.Standing.{accepted-slot-stands, value-within}
-use Rattle.register.specs.Map.{nth}
-use Rattle.register.specs.Outcome.{Listed, unlisted, pastTheEnd, listed, listRecord, listVerdict, listOutcome, listAnswer, listKey, listValue}
+use Rattle.promises.specs.Map.{nth}
+use Rattle.promises.specs.Outcome.{Listed, unlisted, pastTheEnd, listed, listRecord, listVerdict, listOutcome, listAnswer, listKey, listValue}
 use Rattle.row.specs.Fetch.{Fetched, FetchSays}
 use Rattle.row.specs.declared.fetch.Found.{Found}
 use Rattle.row.proofs.Memories.{no-note}

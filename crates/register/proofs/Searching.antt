@@ -27,7 +27,7 @@ use Rattle.index.specs.Walk.{WordOf, blank, Indexes}
 use Rattle.index.proofs.Buffers.{holds-whole}
 use Rattle.index.proofs.SlotLaws.{slots-length, slots-places, slot-record, slot-place}
 use Rattle.index.proofs.Standing.{accepted-slot-stands}
-use Rattle.register.specs.Outcome.{placeOf}
+use Rattle.promises.specs.Outcome.{placeOf}
 use Rattle.row.specs.Row.{nothing}
 use Rattle.row.specs.Fetch.{Fetched, FetchSays}
 use Rattle.row.specs.declared.fetch.Found.{Found}

@@ -19,7 +19,7 @@ use Rattle.tree.specs.Judge.{most}
 use Rattle.row.specs.Row.{sourceOf, recordOf, Stands, Row, recordsOf}
 use Rattle.row.specs.Memory.{Recalls}
 use Rattle.row.proofs.Rows.{records-length}
-use Rattle.register.specs.Map.{greater}
+use Rattle.promises.specs.Map.{greater}
 use Rattle.register.specs.Choice.{choiceOf, weave, wovenOf, valueAt, wordOf, Held, AppendSays, ChooseSays}
 use Rattle.register.specs.declared.choose.Cursor.{Cursor}
 use Rattle.register.specs.declared.choose.Chosen.{Chosen}

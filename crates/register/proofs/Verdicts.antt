@@ -11,7 +11,7 @@ use Rattle.tree.proofs.Accept.{accepted-table}
 use Rattle.index.specs.Walk.{AcceptedIndex, RegisterSays}
 use Rattle.index.specs.declared.Register.{Register}
 use Rattle.index.specs.declared.Register.the-variants.{Accepted, Refused as RefusedRegister}
-use Rattle.register.specs.Outcome.{checkVerdict, checkAnswer}
+use Rattle.promises.specs.Outcome.{checkVerdict, checkAnswer}
 
 -- ---- what the answered judgement says
 module _ (s index : List ℕ) (x : Register) (says : RegisterSays s x index) where

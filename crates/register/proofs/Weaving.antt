@@ -8,9 +8,9 @@ use native.Mathlib.Omega.{arith}
 use lib.ListN.{length, take, drop, getD}
 use Rattle.key.proofs.Laws.{less-connected, less-asymmetric, less-same}
 use Rattle.tree.specs.Record.{Record}
-use Rattle.register.specs.Map.{find, insert, put, greater, join, remove, merge}
+use Rattle.promises.specs.Map.{find, insert, put, greater, join, remove, merge}
 use Rattle.register.specs.Choice.{choiceOf, before, weave}
-use Rattle.register.proofs.MapLaws.{Before, Above, Sorted, above-before, insert-before, insert-here, insert-later, find-here, find-later, remove-here, remove-later}
+use Rattle.promises.proofs.MapLaws.{Before, Above, Sorted, above-before, insert-before, insert-here, insert-later, find-here, find-later, remove-here, remove-later}
 
 -- ---- weave, case by case
 module _ (choose : List ℕ → List ℕ → List ℕ) where

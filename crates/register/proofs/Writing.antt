@@ -20,8 +20,8 @@ use Rattle.tree.specs.Record.{Record, records}
 use Rattle.tree.specs.Table.{SpeltTree, tableOf}
 use Rattle.tree.specs.Judge.{due, most, refused, accepted, judge}
 use Rattle.writer.specs.Output.{fitsOutput, tableAnswer, tableOutput}
-use Rattle.register.specs.Map.{find, isThere, remove, merge}
-use Rattle.register.specs.Outcome.{Outcome, stopped, sizes, settle, carryOut, putPlan, joinPlan, removePlan, mergePlan, onFirst, putOutcome, joinOutcome, removeOutcome, mergeOutcome, answerOf, outputOf}
+use Rattle.promises.specs.Map.{find, isThere, remove, merge}
+use Rattle.promises.specs.Outcome.{Outcome, stopped, sizes, settle, carryOut, putPlan, joinPlan, removePlan, mergePlan, onFirst, putOutcome, joinOutcome, removeOutcome, mergeOutcome, answerOf, outputOf}
 use Rattle.register.specs.Choice.{choiceOf, weave, written, setOutcome}
 use Rattle.register.proofs.Weaving.{weave-put, weave-join}
 

@@ -9,8 +9,8 @@ use Rattle.tree.specs.Record.{Record}
 use Rattle.tree.specs.Judge.{due, most}
 use Rattle.row.specs.Row.{fromSecond, sourceOf, recordOf, Stands, Row, recordsOf}
 use Rattle.row.specs.Memory.{Remembers, Recalls}
-use Rattle.register.specs.Map.{greater}
-use Rattle.register.specs.Outcome.{Outcome, sizes, settle, putOutcome, joinOutcome}
+use Rattle.promises.specs.Map.{greater}
+use Rattle.promises.specs.Outcome.{Outcome, sizes, settle, putOutcome, joinOutcome}
 use Rattle.register.specs.declared.choose.Cursor.{Cursor}
 use Rattle.register.specs.declared.choose.Chosen.{Chosen}
 use Rattle.register.specs.declared.choose.Chosen.the-variants.{Count, TooMany}

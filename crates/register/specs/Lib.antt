@@ -1,8 +1,2 @@
-pub mod Map
-pub mod Outcome
-pub mod Difference
-pub mod Plain
-pub mod Promises
-pub mod Listing
 pub mod Search
 pub mod Choice

@@ -11,7 +11,7 @@ use Rattle.tree.specs.Table.{SpeltTree}
 use Rattle.tree.specs.Judge.{accepted, judge}
 use Rattle.tree.specs.Place.{places}
 use Rattle.row.specs.Row.{nothing}
-use Rattle.register.specs.Outcome.{placeOf}
+use Rattle.promises.specs.Outcome.{placeOf}
 use Rattle.register.specs.declared.search.Searched.{Searched}
 use Rattle.register.specs.declared.search.Searched.the-variants.{At, Absent}
 

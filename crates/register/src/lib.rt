@@ -24,7 +24,7 @@ use row::fetch::fetch_from;
 use writer::write_table;
 ghost use mathlib.Core.Path.{_≡_};
 ghost use lib.ListN.{length};
-ghost use Rattle.register.specs.Outcome.{checkAnswer, lookupAnswer, listOutcome, listAnswer, listKey, listValue, putOutcome, removeOutcome, joinOutcome, mergeOutcome, answerOf, outputOf};
+ghost use Rattle.promises.specs.Outcome.{checkAnswer, lookupAnswer, listOutcome, listAnswer, listKey, listValue, putOutcome, removeOutcome, joinOutcome, mergeOutcome, answerOf, outputOf};
 ghost use Rattle.register.specs.Choice.{setOutcome};
 
 // Public call: the record count of a register.

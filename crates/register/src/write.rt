@@ -10,7 +10,7 @@ ghost use lib.ListN.{length};
 ghost use Rattle.answer.specs.declared.Answer.the-variants.{Refused};
 ghost use Rattle.fips180.specs.Hash.{zeros};
 ghost use Rattle.row.specs.Row.{Row};
-ghost use Rattle.register.specs.Outcome.{answerOf, outputOf};
+ghost use Rattle.promises.specs.Outcome.{answerOf, outputOf};
 ghost use Rattle.register.specs.Choice.{wovenOf, written};
 
 // A refusal: its number is answered, and the output is zero.

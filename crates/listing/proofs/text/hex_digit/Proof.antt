@@ -2,7 +2,7 @@ use Prim.Native.Nat.{_<_, _≤_}
 use borrow.Author.Needs.{needs}
 use native.Mathlib.Omega.{arith}
 use borrow.Author.Tests.{lt-ltb, le-ltb}
-use Rattle.register.specs.Listing.{hexDigit}
+use Rattle.promises.specs.Listing.{hexDigit}
 use Rattle.listing.proofs.text.hex_digit.Statement.{statement}
 use Rattle.listing.proofs.text.hex_digit.Tie as tie
 

@@ -19,12 +19,12 @@ use Rattle.tree.specs.Record.{Record, Spelt, recordOf, keyed, keyedUnder, keyed
 use Rattle.tree.specs.Table.{SpeltTree, linkOf, rawEntries, rawPage, bytesOfPage, tableOf, deepest}
 use Rattle.tree.specs.Judge.{due, equal, digestsRight, digestsRightUnder, digestsRightFrom, accepted, fits}
 use Rattle.tree.proofs.Laws.{equal-true, equal-refl, due-none, AllUnder, AllFrom, Good, page-injective, Accepted}
-use Rattle.register.specs.Map.{find}
-use Rattle.register.specs.Outcome.{sizes}
-use Rattle.register.specs.Difference.{pagesOf, pagesUnder, pagesFrom, known, opened, openedUnder, openedFrom, isValueThere, holds, lacking, countOpened, Difference, stopped, found, differenceRecords, settleDifference, differenceVerdicts, differenceOutput}
-use Rattle.register.specs.Promises.{Among, NoSharedDigest}
-use Rattle.register.proofs.MapLaws.{Above, Sorted, rising-sorted, find-here, find-later, Proper, fits-proper}
-use Rattle.register.proofs.Steps.{Sized, sized, sized-fits}
+use Rattle.promises.specs.Map.{find}
+use Rattle.promises.specs.Outcome.{sizes}
+use Rattle.promises.specs.Difference.{pagesOf, pagesUnder, pagesFrom, known, opened, openedUnder, openedFrom, isValueThere, holds, lacking, countOpened, Difference, stopped, found, differenceRecords, settleDifference, differenceVerdicts, differenceOutput}
+use Rattle.promises.specs.Promises.{Among, NoSharedDigest}
+use Rattle.promises.proofs.MapLaws.{Above, Sorted, rising-sorted, find-here, find-later, Proper, fits-proper}
+use Rattle.promises.proofs.Steps.{Sized, sized, sized-fits}
 
 -- ---- a part of a list, in its order, keeps what the list has
 all-part : (P : Record → Type 0) {a b : List Record} → Sublistᴰ a b → All P b → All P a

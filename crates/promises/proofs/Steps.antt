@@ -15,9 +15,9 @@ use Rattle.tree.specs.Record.{Record, records}
 use Rattle.tree.specs.Table.{SpeltTree, tableOf}
 use Rattle.tree.specs.Judge.{equal, Test, due, most, fits, Verdict, refused, accepted}
 use Rattle.tree.proofs.Laws.{equal-cases, AllTests, due-none, fitting-fits}
-use Rattle.register.specs.Map.{find, put, join, remove, merge, greaterFound}
-use Rattle.register.specs.Outcome.{Outcome, stopped, wrote, Plan, sizes, settle, carryOut, putPlan, joinPlan, removePlan, mergePlan, onFirst, outputOf}
-use Rattle.register.proofs.MapLaws.{Sorted, sorted-rising, find-put-same, find-put-other, find-join-same, find-join-other, find-remove-same, find-remove-other, find-merge, Proper, fits-proper, proper-put, proper-join, proper-remove, proper-merge}
+use Rattle.promises.specs.Map.{find, put, join, remove, merge, greaterFound}
+use Rattle.promises.specs.Outcome.{Outcome, stopped, wrote, Plan, sizes, settle, carryOut, putPlan, joinPlan, removePlan, mergePlan, onFirst, outputOf}
+use Rattle.promises.proofs.MapLaws.{Sorted, sorted-rising, find-put-same, find-put-other, find-join-same, find-join-other, find-remove-same, find-remove-other, find-merge, Proper, fits-proper, proper-put, proper-join, proper-remove, proper-merge}
 
 -- ---- a call that is not refused: its tests hold, and it wrote the table of its result
 pub record Sized (m : List Record) (room : ℕ) : Type 0 where

@@ -14,7 +14,7 @@ use Rattle.page.proofs.Tools.{and-inv, and-both, All}
 use Rattle.tree.specs.Record.{Record}
 use Rattle.tree.specs.Judge.{rising, fits}
 use Rattle.tree.proofs.Laws.{LawfulKey, RightValue, fitting}
-use Rattle.register.specs.Map.{find, isThere, insert, put, greater, join, remove, merge, greaterFound, nth}
+use Rattle.promises.specs.Map.{find, isThere, insert, put, greater, join, remove, merge, greaterFound, nth}
 
 -- ---- the order of keys, and lists in which every later key is greater
 abbrev pub Before : List ℕ → List ℕ → Type 0

@@ -1,8 +1,11 @@
 -- The proofs of the promises in specs/Promises.antt.
-use Prim.Native.Nat.{ℕ}
+use Prim.Native.Nat.{ℕ, zero, suc, _≤_}
 use mathlib.Core.Path.{_≡_, refl, sym, ap, ap₂, _∙_}
 use mathlib.Core.Bool.{true}
-use mathlib.Core.List.{List, [], _∷_}
+use mathlib.Core.Option.{none, some}
+use mathlib.Core.List.{List, [], _∷_, _++_}
+use native.Mathlib.Omega.{arith}
+use lib.ListN.{length}
 use borrow.Table.Steps.{cases}
 use Rattle.answer.specs.declared.Answer.{Answer}
 use Rattle.fips180.specs.Bytes.{Bytes, ByteString}
@@ -13,15 +16,15 @@ use Rattle.tree.specs.Table.{SpeltTree, treeOfSet, tableOf}
 use Rattle.tree.specs.Judge.{accepted, judge, fits}
 use Rattle.tree.specs.Place.{places}
 use Rattle.tree.proofs.Laws.{fitting, fitting-fits, records-of-set, table-accepted, accepted-table, table-bytes, Stand, places-stand}
-use Rattle.register.specs.Map.{find, merge}
-use Rattle.register.specs.Outcome.{placeOf, answerPlace, lookupVerdict, lookupAnswer, Outcome, stopped, wrote, Plan, settle, carryOut, putPlan, joinPlan, removePlan, mergePlan, onFirst, putOutcome, joinOutcome, removeOutcome, mergeOutcome, answerOf}
-use Rattle.register.specs.Difference.{lacking, settleDifference, differenceVerdicts, differenceOutcome}
-use Rattle.register.specs.Plain.{Call, putCall, removeCall, joinCall, mergeCall, planOf, roomOf, mapOutcome, nextSet, mapAnswers, mapSet, callOutcome, nextHeld, libraryAnswers, held}
-use Rattle.register.specs.Promises.{RegisterOf, ValuesAreBytes, LookupIs, ReadsWhatItWrites, ReadsNothingElse, LookupFinds, PutFinds, RemoveFinds, JoinFinds, MergeFinds, RefusedWhenDue, AnswersAsTheMap, HoldsItsRegister, OneRegister, SameSetSameBytes, MergeCommutes, MergeAssociates, MergeIdempotent, DifferenceIsExact, DifferenceRefusedWhenDue}
-use Rattle.register.proofs.MapLaws.{fits-sorted}
-use Rattle.register.proofs.MergeLaws.{merge-commutes as sets-commute, merge-associates as sets-associate, merge-idempotent as set-idempotent}
-use Rattle.register.proofs.Steps.{carried, put-result, join-result, remove-result, merge-result, put-fits, join-fits, remove-fits, merged-fits, merge-fits, first-accepted, second-accepted}
-use Rattle.register.proofs.DifferenceLaws.{opened-is-enough, differenced, difference-fits}
+use Rattle.promises.specs.Map.{find, merge, nth}
+use Rattle.promises.specs.Outcome.{checkVerdict, checkAnswer, listRecord, listVerdict, listOutcome, placeOf, answerPlace, lookupVerdict, lookupAnswer, Outcome, stopped, wrote, Plan, settle, carryOut, putPlan, joinPlan, removePlan, mergePlan, onFirst, putOutcome, joinOutcome, removeOutcome, mergeOutcome, answerOf}
+use Rattle.promises.specs.Difference.{lacking, settleDifference, differenceVerdicts, differenceOutcome}
+use Rattle.promises.specs.Plain.{Call, putCall, removeCall, joinCall, mergeCall, planOf, roomOf, mapOutcome, nextSet, mapAnswers, mapSet, callOutcome, nextHeld, libraryAnswers, held}
+use Rattle.promises.specs.Promises.{RegisterOf, ValuesAreBytes, LookupIs, ReadsWhatItWrites, ReadsNothingElse, CheckCounts, LookupFinds, ListGives, PutFinds, RemoveFinds, JoinFinds, MergeFinds, RefusedWhenDue, AnswersAsTheMap, HoldsItsRegister, OneRegister, SameSetSameBytes, MergeCommutes, MergeAssociates, MergeIdempotent, DifferenceIsExact, DifferenceRefusedWhenDue}
+use Rattle.promises.proofs.MapLaws.{fits-sorted}
+use Rattle.promises.proofs.MergeLaws.{merge-commutes as sets-commute, merge-associates as sets-associate, merge-idempotent as set-idempotent}
+use Rattle.promises.proofs.Steps.{carried, put-result, join-result, remove-result, merge-result, put-fits, join-fits, remove-fits, merged-fits, merge-fits, first-accepted, second-accepted}
+use Rattle.promises.proofs.DifferenceLaws.{opened-is-enough, differenced, difference-fits}
 
 -- ---- demand 2
 pub reads-what-it-writes : ReadsWhatItWrites
@@ -67,6 +70,29 @@ unfolding lookupAnswer lookupVerdict
 lookup-finds s k rs r l =
     rw (r .judged, l, ← r .spells)
     (place-finds (s .list) (k .list) (records (r .tree)) (places 0 (r .tree)) (places-stand (s .list) (s .small) (r .tree) (r .judged)))
+
+-- ---- check and list
+pub check-counts : CheckCounts
+unfolding checkAnswer checkVerdict
+check-counts = ((λ s rs r. rw (r .judged, r .spells)), (λ s r e. rw e))
+
+nth-there : (before later : List Record) (r : Record) → nth (length before) (before ++ (r ∷ later)) ≡ some r
+unfolding nth
+nth-there [] later r = refl
+nth-there (x ∷ before) later r = nth-there before later r
+
+nth-past : (rs : List Record) (n : ℕ) → length rs ≤ n → nth n rs ≡ none
+unfolding nth
+nth-past [] n h = refl
+nth-past (x ∷ rs) zero h = absurd (omega arith)
+nth-past (x ∷ rs) (suc n) h = nth-past rs n (omega arith)
+
+pub list-gives : ListGives
+unfolding listOutcome listVerdict listRecord
+list-gives s rs r room = (
+  (λ before later x e. rw (r .judged, r .spells, e, nth-there before later x)),
+  (λ n h. rw (r .judged, r .spells, nth-past rs n h)),
+)
 
 -- ---- put, remove, join and merge
 -- with the register of a set, a plan is carried out with that set

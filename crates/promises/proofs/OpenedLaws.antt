@@ -9,7 +9,7 @@ use Rattle.tree.specs.Tree.{page, Gap, empty, under, Entries, end, entry, pages
 use Rattle.tree.specs.Record.{Spelt}
 use Rattle.tree.specs.Table.{SpeltTree, bytesOfPage}
 use Rattle.tree.proofs.Laws.{equal-refl}
-use Rattle.register.specs.Difference.{pagesOf, known, countOpened, countOpenedUnder, countOpenedFrom}
+use Rattle.promises.specs.Difference.{pagesOf, known, countOpened, countOpenedUnder, countOpenedFrom}
 
 -- Each page of a tree, with the pages above it.
 unfoldable mutual

@@ -1,25 +1,26 @@
 -- What is promised of the calls. Each promise is a statement; its proof has the same name in proofs/Promises.antt.
-use Prim.Native.Nat.{ℕ}
+use Prim.Native.Nat.{ℕ, _≤_}
 use mathlib.Core.Path.{_≡_}
 use mathlib.Core.Bool.{true, cond}
 use mathlib.Core.Logic.{_⊎_}
 use mathlib.Core.Option.{Option, none, some}
 use mathlib.Core.List.{List, [], _∷_, _++_}
-use lib.ListN.{take, drop}
+use lib.ListN.{length, take, drop}
+use lib.Dec.{leb}
 use Rattle.answer.specs.declared.Answer.{Answer}
 use Rattle.answer.specs.declared.Answer.the-variants.{Done, Refused}
 use Rattle.answer.specs.declared.Refusal.{Refusal}
-use Rattle.answer.specs.declared.Refusal.the-variants.{KeyAbsent}
+use Rattle.answer.specs.declared.Refusal.the-variants.{KeyAbsent, NoRoom}
 use Rattle.fips180.specs.Bytes.{Bytes, ByteString}
 use Rattle.fips180.specs.Hash.{sha256}
 use Rattle.key.specs.Key.{lawful}
 use Rattle.tree.specs.Record.{Record, records}
 use Rattle.tree.specs.Table.{SpeltTree, tableOf}
-use Rattle.tree.specs.Judge.{Test, due, equal, accepted, judge, fits}
-use Rattle.register.specs.Map.{find, greaterFound}
-use Rattle.register.specs.Outcome.{lookupAnswer, stopped, wrote, sizes, putOutcome, joinOutcome, removeOutcome, mergeOutcome}
-use Rattle.register.specs.Difference.{pagesOf, countOpened, lacking, stopped as differenceStopped, found, differenceOutcome}
-use Rattle.register.specs.Plain.{Call, planOf, roomOf, mapAnswers, mapSet, callOutcome, libraryAnswers, held}
+use Rattle.tree.specs.Judge.{Test, due, equal, refused, accepted, judge, fits}
+use Rattle.promises.specs.Map.{find, greaterFound}
+use Rattle.promises.specs.Outcome.{checkAnswer, lookupAnswer, unlisted, pastTheEnd, listed, listOutcome, stopped, wrote, sizes, putOutcome, joinOutcome, removeOutcome, mergeOutcome}
+use Rattle.promises.specs.Difference.{pagesOf, countOpened, lacking, stopped as differenceStopped, found, differenceOutcome}
+use Rattle.promises.specs.Plain.{Call, planOf, roomOf, mapAnswers, mapSet, callOutcome, libraryAnswers, held}
 
 -- A byte string is the register of the set of records that its pages spell.
 pub record RegisterOf (s : List ℕ) (rs : List Record) : Type 0 where
@@ -44,6 +45,21 @@ abbrev pub LookupFinds : Type 0
 LookupFinds =
     (s k : ByteString) (rs : List Record) → RegisterOf (s .list) rs → lawful (k .list) ≡ true
     → LookupIs (find (k .list) rs) (s .list) (lookupAnswer (s .list) (k .list))
+
+-- Check answers the record count of a register, and the number that is due on any other byte string.
+abbrev pub CheckCounts : Type 0
+CheckCounts =
+    ((s : ByteString) (rs : List Record) → RegisterOf (s .list) rs → checkAnswer (s .list) ≡ Done (length rs))
+    × ((s : ByteString) (r : Refusal) → judge (s .list) ≡ refused r → checkAnswer (s .list) ≡ Refused r)
+
+-- List gives the record that so many others come before, or number 13 where its key is longer than the output; from the count on it is past
+-- the end.
+abbrev pub ListGives : Type 0
+ListGives =
+    (s : ByteString) (rs : List Record) → RegisterOf (s .list) rs → (room : ℕ)
+    → ((before later : List Record) (r : Record) → rs ≡ before ++ (r ∷ later)
+    → listOutcome (s .list) (length before) room ≡ cond (leb (length (r .key)) room) (listed r) (unlisted NoRoom))
+    × ((n : ℕ) → length rs ≤ n → listOutcome (s .list) n room ≡ pastTheEnd)
 
 -- A writing call that is not refused wrote the register of a new set. It is known by what each key finds in it.
 abbrev pub NewSetFinds : List ℕ → (List ℕ → Option (List ℕ)) → Type 0

@@ -10,8 +10,8 @@ use Rattle.tree.specs.Tree.{page, Gap, empty, under, Entries, end, entry}
 use Rattle.tree.specs.Record.{Record, Spelt, recordOf, records}
 use Rattle.tree.specs.Table.{SpeltTree, bytesOfPage, tableOf}
 use Rattle.tree.specs.Judge.{due, equal, Verdict, refused, accepted, judge}
-use Rattle.register.specs.Map.{find}
-use Rattle.register.specs.Outcome.{sizes}
+use Rattle.promises.specs.Map.{find}
+use Rattle.promises.specs.Outcome.{sizes}
 
 -- The bytes of a register's pages, in table order.
 unfoldable mutual

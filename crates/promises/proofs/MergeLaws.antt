@@ -4,8 +4,8 @@ use mathlib.Core.Option.{Option, none, some}
 use mathlib.Core.List.{List}
 use Prim.Native.Nat.{ℕ}
 use Rattle.tree.specs.Record.{Record}
-use Rattle.register.specs.Map.{find, merge, greaterFound}
-use Rattle.register.proofs.MapLaws.{Sorted, greater-idempotent, greater-commutes, greater-associates, find-merge, sorted-merge, sorted-ext}
+use Rattle.promises.specs.Map.{find, merge, greaterFound}
+use Rattle.promises.proofs.MapLaws.{Sorted, greater-idempotent, greater-commutes, greater-associates, find-merge, sorted-merge, sorted-ext}
 
 -- ---- the greater of what two sets find
 found-idempotent : (v : Option (List ℕ)) → greaterFound v v ≡ v

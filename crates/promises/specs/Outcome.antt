@@ -17,7 +17,7 @@ use Rattle.tree.specs.Record.{Record, records}
 use Rattle.tree.specs.Table.{tableOf}
 use Rattle.tree.specs.Judge.{Test, due, most, Verdict, refused, accepted, judge}
 use Rattle.tree.specs.Place.{places}
-use Rattle.register.specs.Map.{find, isThere, put, join, remove, merge, nth}
+use Rattle.promises.specs.Map.{find, isThere, put, join, remove, merge, nth}
 
 -- ---- check
 -- The record count, or the first number that is due.

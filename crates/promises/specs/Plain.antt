@@ -5,7 +5,7 @@ use Rattle.answer.specs.declared.Answer.{Answer}
 use Rattle.fips180.specs.Bytes.{ByteString}
 use Rattle.tree.specs.Record.{Record}
 use Rattle.tree.specs.Judge.{judge}
-use Rattle.register.specs.Outcome.{Outcome, stopped, wrote, Plan, carryOut, putPlan, joinPlan, removePlan, mergePlan, putOutcome, joinOutcome, removeOutcome, mergeOutcome, answerOf}
+use Rattle.promises.specs.Outcome.{Outcome, stopped, wrote, Plan, carryOut, putPlan, joinPlan, removePlan, mergePlan, putOutcome, joinOutcome, removeOutcome, mergeOutcome, answerOf}
 
 -- A call: its kind, its arguments (for merge, the second register's bytes) and its output's length.
 pub data Call : Type 0 where
