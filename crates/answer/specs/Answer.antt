@@ -1,9 +1,11 @@
 -- The thirteen numbers, and an answer as one number.
-use Prim.Native.Nat.{ℕ, _*_}
+use Prim.Native.Nat.{ℕ, _+_, _*_, _^_, _<_}
 use Rattle.answer.specs.declared.Refusal.{Refusal}
 use Rattle.answer.specs.declared.Refusal.the-variants.{TooLong, EndsEarly, Departs, BytesFollow, TooManyRecords, WrongPrefix, UnlawfulKey, KeysNotRising, WrongTree, WrongDigest, ValueLength, KeyAbsent, NoRoom}
 use Rattle.answer.specs.declared.Answer.{Answer}
 use Rattle.answer.specs.declared.Answer.the-variants.{Done, Refused}
+use Rattle.answer.specs.declared.Differed.{Differed}
+use Rattle.answer.specs.declared.Differed.the-variants.{Found, Refused as DifferenceRefused}
 
 -- 1: a lent register or a digest's input is longer than 4,194,304 bytes.
 -- 2: each byte fits the page form, but the input ends while a byte or linked page is due.
@@ -37,3 +39,12 @@ numberOf NoRoom = 13
 abbrev pub encoded : Answer → ℕ
 encoded (Done v) = 256 * v
 encoded (Refused r) = numberOf r
+
+-- The same of a difference: the value is the table's length plus 2^24 times the number of opened pages. A table's length is below 2^24.
+abbrev pub LengthFits : Differed → Type 0
+LengthFits (Found n count) = n < 2 ^ 24
+LengthFits (DifferenceRefused r) = Unit {0}
+
+abbrev pub encodedDifference : Differed → ℕ
+encodedDifference (Found n count) = 256 * (n + 2 ^ 24 * count)
+encodedDifference (DifferenceRefused r) = numberOf r

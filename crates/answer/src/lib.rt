@@ -1,6 +1,6 @@
 // The answers of the public calls and the thirteen refusals.
 ghost use mathlib.Core.Path.{_≡_};
-ghost use Rattle.answer.specs.Answer.{numberOf, encoded};
+ghost use Rattle.answer.specs.Answer.{numberOf, encoded, LengthFits, encodedDifference};
 
 // Why a call refuses, in the order in which the reasons are judged.
 pub enum Refusal {
@@ -22,6 +22,12 @@ pub enum Refusal {
 // What a call answers: a value, or the reason of a refusal.
 pub enum Answer {
     Done(u32),
+    Refused(Refusal),
+}
+
+// What the difference answers: the table's length and the number of opened pages, or the reason of a refusal.
+pub enum Differed {
+    Found(u32, u32),
     Refused(Refusal),
 }
 
@@ -53,5 +59,16 @@ pub fn encode(answer: Answer) -> u64
     match answer {
         Answer::Done(value) => 256 * (value as u64),
         Answer::Refused(refusal) => number(refusal),
+    }
+}
+
+// The same of a difference, whose value is the length and, above its 24 bits, the number of opened pages.
+pub fn encode_difference(differed: Differed) -> u64
+    requires { ⌜ LengthFits differed ⌝ }
+    ensures { λ r. ⌜ r ≡ encodedDifference differed ⌝ }
+{
+    match differed {
+        Differed::Found(length, opened) => 256 * (length as u64 + 0x100_0000 * (opened as u64)),
+        Differed::Refused(refusal) => number(refusal),
     }
 }

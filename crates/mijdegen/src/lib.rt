@@ -1,9 +1,10 @@
 // The C interface. A slice is a pointer and a length. An answer is one number: the refusal's number alone, or 256 times the value.
 ghost use mathlib.Core.Path.{_≡_};
-ghost use Rattle.answer.specs.Answer.{encoded};
+ghost use Rattle.answer.specs.Answer.{encoded, encodedDifference};
 ghost use Rattle.sha256.specs.Digest.{digestAnswer, digestOutput};
 ghost use Rattle.key.specs.Layer.{layerAnswer};
 ghost use lib.ListN.{length};
+ghost use Rattle.promises.specs.Difference.{differenceOutcome, differenceAnswer, differenceOutput};
 ghost use Rattle.promises.specs.Outcome.{checkAnswer, lookupAnswer, listOutcome, listAnswer, listKey, listValue, putOutcome, joinOutcome, removeOutcome, mergeOutcome, answerOf, outputOf};
 
 #[no_mangle]
@@ -74,4 +75,12 @@ pub extern "C" fn mijdegen_merge(first: &[u8], second: &[u8], out: &mut [u8]) ->
     ensures output { λ _. ⌜ now (out .exit) ≡ outputOf (mergeOutcome (now (first .entry)) (now (second .entry)) (length (now (out .entry)))) (length (now (out .entry))) ⌝ }
 {
     answer::encode(register::merge(first, second, out))
+}
+
+#[no_mangle]
+pub extern "C" fn mijdegen_difference(first: &[u8], second: &[u8], out: &mut [u8]) -> u64
+    ensures answer { λ r. ⌜ r ≡ encodedDifference (differenceAnswer (differenceOutcome (now (first .entry)) (now (second .entry)) (length (now (out .entry))))) ⌝ }
+    ensures output { λ _. ⌜ now (out .exit) ≡ differenceOutput (differenceOutcome (now (first .entry)) (now (second .entry)) (length (now (out .entry)))) (length (now (out .entry))) ⌝ }
+{
+    answer::encode_difference(register::difference(first, second, out))
 }

@@ -5,6 +5,8 @@ use mathlib.Core.Option.{Option, none, some}
 use mathlib.Core.List.{List, [], _∷_, _++_}
 use lib.ListN.{length}
 use Rattle.answer.specs.declared.Refusal.{Refusal}
+use Rattle.answer.specs.declared.Differed.{Differed}
+use Rattle.answer.specs.declared.Differed.the-variants.{Found, Refused}
 use Rattle.fips180.specs.Hash.{sha256, zeros}
 use Rattle.tree.specs.Tree.{page, Gap, empty, under, Entries, end, entry}
 use Rattle.tree.specs.Record.{Record, Spelt, recordOf, records}
@@ -98,6 +100,11 @@ differenceVerdicts (accepted t) (accepted u) room =
 
 unfoldable pub differenceOutcome : List ℕ → List ℕ → ℕ → Difference
 differenceOutcome s u room = differenceVerdicts (judge s) (judge u) room
+
+-- The table's length and the number of opened pages are answered; a refusal answers its number alone.
+unfoldable pub differenceAnswer : Difference → Differed
+differenceAnswer (stopped r) = Refused r
+differenceAnswer (found t count) = Found (length t) count
 
 -- After the table the output is zero; on refusal it is wholly zero.
 unfoldable pub differenceOutput : Difference → ℕ → List ℕ

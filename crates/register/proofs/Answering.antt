@@ -29,6 +29,7 @@ use Rattle.promises.specs.Outcome.{placeOf, lookupAnswer, lookupVerdict, answer
 use Rattle.register.specs.Search.{placeFound, SearchSays}
 use Rattle.register.specs.declared.search.Searched.{Searched}
 use Rattle.register.specs.declared.search.Searched.the-variants.{At, Absent}
+use Rattle.choice.proofs.Choosing.{not-right, not-wrong}
 
 -- ---- every value of an accepted register stands within it
 values-within : (s : List ℕ) (xs : List Slot) → All (SlotAt s) xs → All (λ p. p + 32 ≤ length s) (map (λ x. x .value) xs)
@@ -49,14 +50,6 @@ place-among P k (r ∷ rs) [] p h e = absurd (none≢some e)
 place-among P k (r ∷ rs) (q ∷ ps) p h e =
     cond-inv (less k (r .key)) (λ _ f. absurd (none≢some f))
     (λ _ f. cond-inv (less (r .key) k) (λ _ g. place-among P k rs ps p (h .1) g) (λ _ g. subst P (some-place g) (h .0)) f) e
-
-pub not-right : (b : Bool) → not b ≡ true → b ≡ false
-not-right true e = sym e
-not-right false e = refl
-
-pub not-wrong : (b : Bool) → not b ≡ false → b ≡ true
-not-wrong true e = refl
-not-wrong false e = sym e
 
 -- ---- the answer
 module _ (s index : List ℕ) (m : Register) (w : RegisterSays s m index) where

@@ -32,15 +32,16 @@ use Rattle.writer.specs.Output.{tableAnswer, tableOutput}
 use Rattle.promises.specs.Map.{find, remove}
 use Rattle.promises.specs.Outcome.{Outcome, stopped, placeOf, answerOf, outputOf, removeOutcome, mergeOutcome}
 use Rattle.register.specs.Search.{SearchSays}
-use Rattle.register.specs.Choice.{choiceOf, weave, wovenOf, RowOf, ChooseSays, Below, ToSecond, LeftOut, Single, written, setOutcome}
-use Rattle.register.specs.declared.choose.Chosen.{Chosen}
-use Rattle.register.specs.declared.choose.Chosen.the-variants.{Count, TooMany}
+use Rattle.choice.specs.Choice.{choiceOf, weave, wovenOf, RowOf, ChooseSays, Below, ToSecond, LeftOut, Single}
+use Rattle.register.specs.Writing.{written, setOutcome}
+use Rattle.choice.specs.declared.choose.Chosen.{Chosen}
+use Rattle.choice.specs.declared.choose.Chosen.the-variants.{Count, TooMany}
 use Rattle.register.specs.declared.search.Searched.{Searched}
 use Rattle.register.specs.declared.search.Searched.the-variants.{At, Absent}
 use Rattle.promises.proofs.MapLaws.{Sorted, rising-sorted}
-use Rattle.register.proofs.Weaving.{weave-merge, remove-at, find-at}
-use Rattle.register.proofs.Choosing.{all-first, first-at, all-drop, records-slice, records-front}
-use Rattle.register.proofs.Answering.{none≢some, not-right, not-wrong}
+use Rattle.choice.proofs.Weaving.{weave-merge, remove-at, find-at}
+use Rattle.choice.proofs.Choosing.{all-first, first-at, all-drop, records-slice, records-front, not-right, not-wrong}
+use Rattle.register.proofs.Answering.{none≢some}
 use Rattle.register.proofs.Verdicts.{accepted-index, accepted-few}
 use Rattle.register.proofs.Writing.{stopped-answer, stopped-output, written-many, written-answer, written-output, set-written, remove-absent, remove-written, merge-written}
 

@@ -3,9 +3,6 @@ pub mod Verdicts
 pub mod Listings
 pub mod Searching
 pub mod Answering
-pub mod Weaving
-pub mod Choosing
-pub mod Turns
-pub mod WordLaws
 pub mod Writing
 pub mod Calls
+pub mod Differing

@@ -22,8 +22,9 @@ use Rattle.tree.specs.Judge.{due, most, refused, accepted, judge}
 use Rattle.writer.specs.Output.{fitsOutput, tableAnswer, tableOutput}
 use Rattle.promises.specs.Map.{find, isThere, remove, merge}
 use Rattle.promises.specs.Outcome.{Outcome, stopped, sizes, settle, carryOut, putPlan, joinPlan, removePlan, mergePlan, onFirst, putOutcome, joinOutcome, removeOutcome, mergeOutcome, answerOf, outputOf}
-use Rattle.register.specs.Choice.{choiceOf, weave, written, setOutcome}
-use Rattle.register.proofs.Weaving.{weave-put, weave-join}
+use Rattle.choice.specs.Choice.{choiceOf, weave}
+use Rattle.register.specs.Writing.{written, setOutcome}
+use Rattle.choice.proofs.Weaving.{weave-put, weave-join}
 
 -- ---- a refusal
 module _ (o : Outcome) (r : Refusal) (e : o ≡ stopped r) where

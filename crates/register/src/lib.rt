@@ -1,21 +1,22 @@
 // The calls on registers.
 mod bytes; // bytes of outputs
-pub mod choose; // the records of a result
+pub mod differ; // the difference of two registers that are accepted
 pub mod search; // the place of a key's value
-pub mod words; // words of rows
 pub mod write; // what the writing calls write
 
 use crate::bytes::clear;
 use crate::bytes::copy_in;
+use crate::differ::differ;
 use crate::search::Searched;
 use crate::search::search;
-use crate::words::leave_out;
-use crate::words::single;
-use crate::words::to_second;
 use crate::write::refuse;
 use crate::write::write_chosen;
 use answer::Answer;
+use answer::Differed;
 use answer::Refusal;
+use choice::words::leave_out;
+use choice::words::single;
+use choice::words::to_second;
 use index::Register;
 use index::judge;
 use key::rule::is_lawful;
@@ -25,7 +26,8 @@ use writer::write_table;
 ghost use mathlib.Core.Path.{_≡_};
 ghost use lib.ListN.{length};
 ghost use Rattle.promises.specs.Outcome.{checkAnswer, lookupAnswer, listOutcome, listAnswer, listKey, listValue, putOutcome, removeOutcome, joinOutcome, mergeOutcome, answerOf, outputOf};
-ghost use Rattle.register.specs.Choice.{setOutcome};
+ghost use Rattle.promises.specs.Difference.{differenceOutcome, differenceAnswer, differenceOutput};
+ghost use Rattle.register.specs.Writing.{setOutcome};
 
 // Public call: the record count of a register.
 pub fn check(register: &[u8]) -> Answer
@@ -173,5 +175,28 @@ pub fn merge(first: &[u8], second: &[u8], out: &mut [u8]) -> Answer
             }
         }
         Register::Refused(refusal) => refuse(out, refusal),
+    }
+}
+
+// Public call: the register of those records of a second register, in the pages that the first does not know, that the first does not
+// hold. It goes to the output with zeros after it; its length and the number of opened pages are answered. On refusal the output is zero.
+pub fn difference(first: &[u8], second: &[u8], out: &mut [u8]) -> Differed
+    ensures answer { λ r. ⌜ r ≡ differenceAnswer (differenceOutcome (now (first .entry)) (now (second .entry)) (length (now (out .entry)))) ⌝ }
+    ensures output { λ _. ⌜ now (out .exit) ≡ differenceOutput (differenceOutcome (now (first .entry)) (now (second .entry)) (length (now (out .entry)))) (length (now (out .entry))) ⌝ }
+{
+    let mut index = [0u64; 4096];
+    let mut other = [0u64; 4096];
+    match judge(first, &mut index) {
+        Register::Accepted(n) => match judge(second, &mut other) {
+            Register::Accepted(m) => differ(first, second, &index, n, &other, m, out),
+            Register::Refused(refusal) => {
+                clear(out);
+                Differed::Refused(refusal)
+            }
+        },
+        Register::Refused(refusal) => {
+            clear(out);
+            Differed::Refused(refusal)
+        }
     }
 }

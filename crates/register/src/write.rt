@@ -1,9 +1,9 @@
 // What the writing calls write.
 use crate::bytes::clear;
-use crate::choose::Chosen;
-use crate::choose::choose;
 use answer::Answer;
 use answer::Refusal;
+use choice::choose::Chosen;
+use choice::choose::choose;
 use writer::write_table;
 ghost use mathlib.Core.Path.{_≡_};
 ghost use lib.ListN.{length};
@@ -11,7 +11,8 @@ ghost use Rattle.answer.specs.declared.Answer.the-variants.{Refused};
 ghost use Rattle.fips180.specs.Hash.{zeros};
 ghost use Rattle.row.specs.Row.{Row};
 ghost use Rattle.promises.specs.Outcome.{answerOf, outputOf};
-ghost use Rattle.register.specs.Choice.{wovenOf, written};
+ghost use Rattle.choice.specs.Choice.{wovenOf};
+ghost use Rattle.register.specs.Writing.{written};
 
 // A refusal: its number is answered, and the output is zero.
 pub fn refuse(out: &mut [u8], refusal: Refusal) -> Answer

@@ -1,0 +1,6 @@
+pub mod Weaving
+pub mod Choosing
+pub mod Turns
+pub mod WordLaws
+pub mod Sifting
+pub mod Leaving

@@ -1,0 +1,111 @@
+-- Two sets woven into one: with one record it is an insertion, and with the greater values a merge. And a set without one of its records.
+use Prim.Native.Nat.{ℕ, zero, suc, _≤_, _<_}
+use mathlib.Core.Path.{_≡_, refl, sym, ap, _∙_}
+use mathlib.Core.Bool.{true, false}
+use mathlib.Core.Option.{some}
+use mathlib.Core.List.{List, [], _∷_, _++_}
+use native.Mathlib.Omega.{arith}
+use lib.ListN.{length, take, drop, getD}
+use Rattle.key.proofs.Laws.{less-connected, less-asymmetric, less-same}
+use Rattle.tree.specs.Record.{Record}
+use Rattle.promises.specs.Map.{find, insert, put, greater, join, remove, merge}
+use Rattle.choice.specs.Choice.{choiceOf, before, weave}
+use Rattle.promises.proofs.MapLaws.{Before, Above, Sorted, above-before, insert-before, insert-here, insert-later, find-here, find-later, remove-here, remove-later}
+
+-- ---- weave, case by case
+module _ (choose : List ℕ → List ℕ → List ℕ) where
+  pub weave-none : (rs : List Record) → weave choose [] rs ≡ rs
+  unfolding weave
+  weave-none rs = refl
+
+  module _ (x : Record) (m : List Record) where
+    weave-end : weave choose (x ∷ m) [] ≡ x ∷ weave choose m []
+    unfolding weave before
+    weave-end = refl
+
+    module _ (r : Record) (rs : List Record) where
+      pub weave-first : Before (x .key) (r .key) → weave choose (x ∷ m) (r ∷ rs) ≡ x ∷ weave choose m (r ∷ rs)
+      unfolding weave before
+      weave-first h = rw h
+
+      pub weave-second : Before (r .key) (x .key) → weave choose (x ∷ m) (r ∷ rs) ≡ r ∷ weave choose (x ∷ m) rs
+      unfolding weave before
+      weave-second h = rw (h, less-asymmetric (r .key) (x .key) h)
+
+      pub weave-both : x .key ≡ r .key
+          → weave choose (x ∷ m) (r ∷ rs) ≡ record { key = x .key; val = choose (x .val) (r .val) } ∷ weave choose m rs
+      unfolding weave before
+      weave-both e = rw (less-same (x .key) (r .key) e, less-same (r .key) (x .key) (sym e))
+
+    -- a record before all of the second's comes first
+    weave-above : (rs : List Record) → Above (x .key) rs → weave choose (x ∷ m) rs ≡ x ∷ weave choose m rs
+    weave-above [] a = weave-end
+    weave-above (r ∷ rs) a = weave-first r rs (a .0)
+
+  pub weave-whole : (m : List Record) → weave choose m [] ≡ m
+  weave-whole [] = weave-none []
+  weave-whole (x ∷ m) = weave-end x m ∙ ap (λ (l : List Record). x ∷ l) (weave-whole m)
+
+  -- the second's first record may be inserted before the rest
+  pub weave-insert : (r : Record) (m rs : List Record) → Above (r .key) rs → weave choose m (r ∷ rs) ≡ weave choose (insert choose r m) rs
+  unfolding insert
+  weave-insert r [] rs a = weave-none (r ∷ rs) ∙ sym (weave-above r [] rs a ∙ ap (λ (l : List Record). r ∷ l) (weave-none rs))
+  weave-insert r (x ∷ m) rs a =
+      less-connected (r .key) (x .key)
+      (λ h. weave-second x m r rs h ∙ sym (weave-above r (x ∷ m) rs a) ∙ rw (insert-before choose r x m h))
+      (λ e.
+      let y : Record = record { key = x .key; val = choose (x .val) (r .val) } in
+      weave-both x m r rs (sym e) ∙ sym (weave-above y m rs (rw e at a)) ∙ rw (insert-here choose r x m e))
+      (λ h.
+      weave-first x m r rs h
+      ∙ ap (λ (l : List Record). x ∷ l) (weave-insert r m rs a)
+      ∙ sym (weave-above x (insert choose r m) rs (above-before (x .key) (r .key) rs h a))
+      ∙ rw (insert-later choose r x m h))
+
+  pub weave-one : (r : Record) (m : List Record) → weave choose m (r ∷ []) ≡ insert choose r m
+  weave-one r m = weave-insert r m [] tt ∙ weave-whole (insert choose r m)
+
+-- ---- what the calls ask for
+pub weave-put : (r : Record) (m : List Record) → weave (choiceOf false) m (r ∷ []) ≡ put r m
+unfolding put choiceOf
+weave-put r m = weave-one (λ old new. new) r m
+
+pub weave-join : (r : Record) (m : List Record) → weave (choiceOf true) m (r ∷ []) ≡ join r m
+unfolding join choiceOf
+weave-join r m = weave-one greater r m
+
+pub weave-merge : (rs m : List Record) → Sorted rs → weave (choiceOf true) m rs ≡ merge m rs
+unfolding merge join choiceOf
+weave-merge [] m s = weave-whole greater m
+weave-merge (r ∷ rs) m s = weave-insert greater r m rs (s .0) ∙ weave-merge rs (insert greater r m) (s .1)
+
+-- ---- no record of the first is lost
+pub weave-left-length : (choose : List ℕ → List ℕ → List ℕ) (m rs : List Record) → length m ≤ length (weave choose m rs)
+weave-left-length choose [] rs = omega arith
+weave-left-length choose (x ∷ m) [] = rw (weave-whole choose (x ∷ m)) (omega arith)
+weave-left-length choose (x ∷ m) (r ∷ rs) =
+    less-connected (x .key) (r .key)
+    (λ h. rw (weave-first choose x m r rs h) (omega (arith, weave-left-length choose m (r ∷ rs))))
+    (λ e. rw (weave-both choose x m r rs e) (omega (arith, weave-left-length choose m rs)))
+    (λ h. rw (weave-second choose x m r rs h) (omega (arith, weave-left-length choose (x ∷ m) rs)))
+
+-- ---- a set without its i-th record
+above-at : (k : List ℕ) (m : List Record) (d : Record) → Above k m → (i : ℕ) → i < length m → Before k (getD m i d .key)
+above-at k [] d a i h = absurd (omega arith)
+above-at k (x ∷ m) d a zero h = a .0
+above-at k (x ∷ m) d a (suc i) h = above-at k m d (a .1) i (omega arith)
+
+module _ (k : List ℕ) (d : Record) where
+  pub remove-at : (m : List Record) → Sorted m → (i : ℕ) → i < length m → getD m i d .key ≡ k → remove k m ≡ take i m ++ drop (suc i) m
+  remove-at [] s i h e = absurd (omega arith)
+  remove-at (x ∷ m) s zero h e = remove-here k x m (sym e)
+  remove-at (x ∷ m) s (suc i) h e =
+      remove-later k x m (rw e at (above-at (x .key) m d (s .0) i (omega arith)))
+      ∙ ap (λ (l : List Record). x ∷ l) (remove-at m (s .1) i (omega arith) e)
+
+  -- the key finds its value there
+  pub find-at : (m : List Record) → Sorted m → (i : ℕ) → i < length m → getD m i d .key ≡ k → find k m ≡ some (getD m i d .val)
+  find-at [] s i h e = absurd (omega arith)
+  find-at (x ∷ m) s zero h e = find-here k x m (sym e)
+  find-at (x ∷ m) s (suc i) h e =
+      find-later k x m (rw e at (above-at (x .key) m d (s .0) i (omega arith))) ∙ find-at m (s .1) i (omega arith) e

@@ -1,0 +1,68 @@
+use Rattle.choice.specs.Choice.{valueAt}
+use Rattle.choice.proofs.Choosing.{word-put, word-less, word-equal, word-greater}
+use borrow.Author.Needs.{needs}
+use Rattle.choice.proofs.choose.word_of.Statement.{statement}
+use Rattle.choice.proofs.choose.word_of.Tie as tie
+
+returns : tie.Need-returns
+returns c =
+    word-put _ _ _ _ _ (c .if1 .taken)
+
+value-of-requires : tie.Need-value-of-requires
+value-of-requires c κs = search needs
+
+value-of-requires-2 : tie.Need-value-of-requires-2
+value-of-requires-2 c κs = search needs
+
+slice-aggregate-compare : tie.Need-slice-aggregate-compare
+slice-aggregate-compare c = search needs
+
+slice-aggregate-compare-2 : tie.Need-slice-aggregate-compare-2
+slice-aggregate-compare-2 c = search needs
+
+compare-requires : tie.Need-compare-requires
+compare-requires c κs = search needs
+
+enum-told : tie.Need-enum-told
+enum-told c = search needs
+
+enum-told-2 : tie.Need-enum-told-2
+enum-told-2 c = search needs
+
+enum-told-3 : tie.Need-enum-told-3
+enum-told-3 c = search needs
+
+returns-2 : tie.Need-returns-2
+unfolding valueAt
+returns-2 c =
+    let p = c .before .before .before .before .before .before .before .before .before .before .pre in
+    word-less _ _ _ _ _ (c .before .before .before .before .before .before .before .if1 .left) _ _ (c .before .before .before .before .before .before .value-of .ensures (p .0)) (c .before .before .before .before .before .value-of2 .ensures (p .1)) _ (c .before .before .compare .ensures) (search needs)
+
+returns-3 : tie.Need-returns-3
+unfolding valueAt
+returns-3 c =
+    let p = c .before .before .before .before .before .before .before .before .before .before .pre in
+    word-equal _ _ _ _ _ (c .before .before .before .before .before .before .before .if1 .left) _ _ (c .before .before .before .before .before .before .value-of .ensures (p .0)) (c .before .before .before .before .before .value-of2 .ensures (p .1)) _ (c .before .before .compare .ensures) (search needs)
+
+returns-4 : tie.Need-returns-4
+unfolding valueAt
+returns-4 c =
+    let p = c .before .before .before .before .before .before .before .before .before .before .pre in
+    word-greater _ _ _ _ _ (c .before .before .before .before .before .before .before .if1 .left) _ _ (c .before .before .before .before .before .before .value-of .ensures (p .0)) (c .before .before .before .before .before .value-of2 .ensures (p .1)) _ (c .before .before .compare .ensures) (search needs)
+
+pub word-of-spec : {M : Type 1} → statement M
+word-of-spec =
+    tie.close
+    (tie.spec
+    returns
+    value-of-requires
+    value-of-requires-2
+    slice-aggregate-compare
+    slice-aggregate-compare-2
+    compare-requires
+    enum-told
+    enum-told-2
+    enum-told-3
+    returns-2
+    returns-3
+    returns-4)

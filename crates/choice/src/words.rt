@@ -1,0 +1,45 @@
+// Words of rows.
+use key::layers::layer_of;
+use page::writing::write_entry;
+use page::writing::write_page_start;
+ghost use mathlib.Core.Path.{_≡_};
+ghost use mathlib.Core.Bool.{true};
+ghost use Prim.Native.Nat.{_≤_, _<_};
+ghost use lib.ListN.{length};
+ghost use Rattle.key.specs.Key.{lawful};
+ghost use Rattle.choice.specs.Choice.{Below, ToSecond, LeftOut, Single};
+
+// The first n words of an index become words of the second register.
+pub fn to_second(index: &mut [u64], n: usize)
+    requires { ⌜ (n ≤ length (now index)) × Below (now index) n ⌝ }
+    ensures { λ _. ⌜ ToSecond (now (index .entry)) n (now (index .exit)) ⌝ }
+{
+    let mut i = 0;
+    while i < n {
+        index[i] = index[i] + 0x1000_0000_0000_0000;
+        i += 1;
+    }
+}
+
+// The word at a position is left out of the first n.
+pub fn leave_out(row: &mut [u64], n: usize, at: usize)
+    requires { ⌜ (at < n) × (n ≤ length (now row)) ⌝ }
+    ensures { λ _. ⌜ LeftOut (now (row .entry)) n at (now (row .exit)) ⌝ }
+{
+    let mut i = at;
+    while i < n - 1 {
+        row[i] = row[i + 1];
+        i += 1;
+    }
+}
+
+// One record alone, as the second register: the start of a page and the record's entry, and the word that leads to it.
+pub fn single(key: &[u8], value: [u8; 32], page: &mut [u8]) -> u64
+    requires { ⌜ (lawful (now key) ≡ true) × (length (now page) ≡ 512) ⌝ }
+    ensures { λ r. ⌜ Single (now (key .entry)) value (now (page .exit)) r ⌝ }
+{
+    let layer = layer_of(key) as u64;
+    let at = write_page_start(page, 1);
+    write_entry(&mut page[at..], &key[..0], key, false, [0u8; 32], value);
+    0x1000_0000_0000_0000 + layer * 0x1_0000_0000_0000 + at as u64 * 0x100_0000
+}

@@ -1,0 +1,10 @@
+pub mod Links
+pub mod LinkTable
+pub mod LinkRows
+pub mod LinkLoops
+pub mod LinkTests
+pub mod Picks
+pub mod OpenFlags
+pub mod Stages
+pub mod PassSteps
+pub mod WholePass

@@ -1,0 +1,287 @@
+-- The difference of two accepted registers, from the words that are staged to the answer.
+use Prim.Native.Nat.{ℕ, zero, suc, _+_, _^_, _≤_, _<_}
+use mathlib.Core.Path.{_≡_, refl, sym, ap, subst, _∙_}
+use mathlib.Core.Bool.{Bool, true, false, cond, not, _&&_}
+use mathlib.Core.Option.{Option, none, some}
+use mathlib.Core.List.{List, [], _∷_, _++_, map}
+use native.Mathlib.Omega.{arith}
+use lib.ListN.{length, take, getD, length-append, length-map}
+use lib.Seq.{length-take-le, take-all, getD-take}
+use lib.Dec.{leb}
+use borrow.Author.Tests.{le-leb}
+use borrow.Table.Steps.{cases}
+use Rattle.answer.specs.Answer.{LengthFits}
+use Rattle.answer.specs.declared.Refusal.{Refusal}
+use Rattle.answer.specs.declared.Refusal.the-variants.{NoRoom}
+use Rattle.answer.specs.declared.Answer.{Answer}
+use Rattle.answer.specs.declared.Answer.the-variants.{Done, Refused as AnswerRefused}
+use Rattle.answer.specs.declared.Differed.the-variants.{Found, Refused}
+use Rattle.fips180.specs.Bytes.{Bytes}
+use Rattle.fips180.specs.Hash.{zeros}
+use Rattle.sha256.specs.Digest.{longest}
+use Rattle.page.specs.Page.{pageBytes}
+use Rattle.page.proofs.Tools.{All}
+use Rattle.tree.specs.Tree.{page, Gap, empty, under, Entries, end, entry}
+use Rattle.tree.specs.Record.{Record, Spelt, records}
+use Rattle.tree.specs.Table.{SpeltTree, bytesOfPage, table, tableUnder, tableFrom, tableOf}
+use Rattle.tree.specs.Judge.{due, most, Verdict, refused, accepted, judge}
+use Rattle.tree.proofs.Laws.{due-none}
+use Rattle.tree.proofs.Accept.{Accepted, accepted-table}
+use Rattle.index.specs.Walk.{AcceptedIndex}
+use Rattle.row.specs.Row.{recordOf, Stands, Row, recordsOf}
+use Rattle.row.proofs.Rows.{records-length, accepted-short, accepted-row, accepted-records, second-row, second-records}
+use Rattle.writer.specs.Output.{fitsOutput, tableAnswer, tableOutput}
+use Rattle.promises.specs.Difference.{pagesOf, known, opened, countOpened, countOpenedUnder, countOpenedFrom}
+use Rattle.opened.specs.Known.{pagesIn}
+use Rattle.opened.specs.Passing.{flags, pick, marked, IsAccepted, OpenedStaged}
+use Rattle.opened.specs.declared.pass.Opening.{Opening}
+use Rattle.opened.proofs.Picks.{pick-map}
+use Rattle.opened.proofs.OpenFlags.{opened-picks}
+use Rattle.promises.specs.Outcome.{sizes}
+use Rattle.promises.specs.Difference.{Difference, stopped, found, differenceRecords, settleDifference, differenceVerdicts, differenceOutcome, differenceAnswer, differenceOutput}
+use Rattle.choice.specs.Choice.{RowOf}
+use Rattle.choice.specs.Sifting.{siftedOf}
+use Rattle.promises.proofs.MapLaws.{Sorted, rising-sorted, Proper}
+use Rattle.promises.proofs.Steps.{sized}
+use Rattle.promises.proofs.DifferenceLaws.{proper-part, opened-part}
+use Rattle.choice.proofs.Choosing.{all-first, first-at}
+use Rattle.choice.proofs.Sifting.{sift-lacking}
+use Rattle.register.proofs.Verdicts.{accepted-few}
+
+-- ---- no more pages are opened than the table has bytes
+page-bytes : (t : SpeltTree) → 1 ≤ length (bytesOfPage t)
+unfolding bytesOfPage pageBytes
+page-bytes t = omega arith
+
+module _ (first : List (List ℕ)) where
+  mutual
+    unfolding countOpened table
+
+    pub opened-few : (t : SpeltTree) → countOpened first t ≤ length (table t)
+    opened-few (page g es) =
+        let whole : 1 + (countOpenedUnder first g + countOpenedFrom first es) ≤ length (table (page g es)) = omega (arith, page-bytes (page g es), length-append (bytesOfPage (page g es)) (tableUnder g ++ tableFrom es), length-append (tableUnder g) (tableFrom es), opened-few-under g, opened-few-from es) in
+        cases (known first (bytesOfPage (page g es))) (λ e. rw e (omega arith)) (λ e. rw e whole)
+
+    opened-few-under : (g : Gap Spelt (List ℕ)) → countOpenedUnder first g ≤ length (tableUnder g)
+    opened-few-under empty = omega arith
+    opened-few-under (under digest p) = opened-few p
+
+    opened-few-from : (es : Entries Spelt (List ℕ)) → countOpenedFrom first es ≤ length (tableFrom es)
+    opened-few-from end = omega arith
+    opened-few-from (entry e g es) = omega (arith, length-append (tableUnder g) (tableFrom es), opened-few-under g, opened-few-from es)
+
+-- ---- those of a list whose flag is set
+pick-all : (P : ℕ → Type 0) (bs : List Bool) (l : List ℕ) → All P l → All P (pick bs l)
+unfolding pick
+pick-all P [] l a = tt
+pick-all P (b ∷ bs) [] a = tt
+pick-all P (true ∷ bs) (w ∷ l) a = (a .0, pick-all P bs l (a .1))
+pick-all P (false ∷ bs) (w ∷ l) a = pick-all P bs l (a .1)
+
+marked-at : (l : List ℕ) (i : ℕ) → i < length l → getD (marked l) i 0 ≡ getD l i 0 + 2 ^ 60
+marked-at [] i h = absurd (omega arith)
+marked-at (w ∷ l) zero h = refl
+marked-at (w ∷ l) (suc i) h = marked-at l i (omega arith)
+
+-- ---- the words that are staged
+module _ (s u other : List ℕ) (m : ℕ) (bytes : Bytes u) (x : AcceptedIndex u other m) (room : m ≤ length other) where
+  abbrev words : List ℕ
+  words = marked (take m other)
+
+  words-length : length words ≡ m
+  words-length = length-map (take m other) (λ w. w + 2 ^ 60) ∙ length-take-le m other room
+
+  words-all : take m words ≡ words
+  words-all = take-all m words (omega (arith, words-length))
+
+  words-at : (i : ℕ) → i < m → getD words i 0 ≡ getD other i 0 + 2 ^ 60
+  words-at i h =
+      marked-at (take m other) i (omega (arith, length-take-le m other room)) ∙ ap (λ (w : ℕ). w + 2 ^ 60) (getD-take m other i 0 h)
+
+  words-stand : length s < 2 ^ 24 → All (Stands s u) words
+  words-stand h =
+      let row = second-row u other (x .tree) m bytes (x .judged) (x .indexed) (x .size) room s words (omega (arith, words-length)) words-at h in
+      subst (All (Stands s u)) words-all (all-first (Stands s u) words m (row .room) (row .stands))
+
+  words-records : map (recordOf s u) words ≡ records (x .tree)
+  unfolding recordsOf
+  words-records =
+      ap (map (recordOf s u)) (sym words-all)
+      ∙ second-records u other (x .tree) m bytes (x .judged) (x .indexed) (x .size) room s words (omega (arith, words-length)) words-at
+
+  -- the first words of the row stand for the records in opened pages
+  module _ (first : List (List ℕ)) (r : Opening) (row : List ℕ) (o : OpenedStaged first (x .tree) other m r row) (fits : m ≤ length row) where
+    abbrev bs : List Bool
+    bs = flags first (not (known first (bytesOfPage (x .tree)))) (x .tree)
+
+    row-staged : length s < 2 ^ 24 → Row s u row (r .staged)
+    row-staged h = record {
+      few = omega (arith, o .fits, accepted-few bytes x);
+      room = omega (arith, o .fits);
+      first = h;
+      second = accepted-short u other (x .tree) m bytes (x .judged) (x .indexed) (x .size) room;
+      stands = first-at (Stands s u) row (r .staged) (omega (arith, o .fits)) (rw (o .staged) (pick-all (Stands s u) bs words (words-stand h)));
+    }
+
+    records-staged : recordsOf s u row (r .staged) ≡ opened first (x .tree)
+    unfolding recordsOf
+    records-staged =
+        ap (map (recordOf s u)) (o .staged) ∙ sym (pick-map (recordOf s u) bs words) ∙ rw words-records (sym (opened-picks first (x .tree)))
+
+-- ---- the answer and the output, by whether the table fits
+module _ (rs : List Record) (few : length rs ≤ most) (room count : ℕ) where
+  abbrev settled : Difference
+  settled = settleDifference (due (sizes rs room)) rs count
+
+  settled-is : settled ≡ cond (fitsOutput (tableOf rs) room) (found (tableOf rs) count) (stopped NoRoom)
+  unfolding settleDifference due sizes fitsOutput
+  settled-is =
+      let b : Bool = leb (length (tableOf rs)) room && leb (length (tableOf rs)) longest in
+      rw (le-leb (length rs) most few) (cases b (λ e. rw e) (λ e. rw e))
+
+  module _ (answer : Answer) (says : answer ≡ tableAnswer (tableOf rs) room) where
+    pub settled-found : (n : ℕ) → answer ≡ Done n → Found n count ≡ differenceAnswer settled
+    unfolding tableAnswer differenceAnswer
+    settled-found n e =
+        rw settled-is (cases (fitsOutput (tableOf rs) room)
+        (λ h. let same : Done n ≡ Done (length (tableOf rs)) = sym e ∙ says ∙ rw h in rw h (cc))
+        (λ h. let other : Done n ≡ AnswerRefused NoRoom = sym e ∙ says ∙ rw h in let z : _≡_ {A = ℕ} 0 1 = cc in absurd (omega arith)))
+
+    pub settled-refused : (r : Refusal) → answer ≡ AnswerRefused r → Refused r ≡ differenceAnswer settled
+    unfolding tableAnswer differenceAnswer
+    settled-refused r e =
+        rw settled-is (cases (fitsOutput (tableOf rs) room)
+        (λ h. let other : AnswerRefused r ≡ Done (length (tableOf rs)) = sym e ∙ says ∙ rw h in let z : _≡_ {A = ℕ} 0 1 = cc in absurd (omega arith))
+        (λ h. let same : AnswerRefused r ≡ AnswerRefused NoRoom = sym e ∙ says ∙ rw h in rw h (cc)))
+
+  pub settled-output : tableOutput (tableOf rs) room ≡ differenceOutput settled room
+  unfolding tableOutput differenceOutput
+  settled-output = rw settled-is (cases (fitsOutput (tableOf rs) room) (λ h. rw h) (λ h. rw h))
+
+-- ---- two registers that are accepted, with their indexes
+pub record Both (s u index other : List ℕ) (n m : ℕ) : Type 0 where
+  pub bytes : Bytes s
+  pub others : Bytes u
+  pub first : AcceptedIndex s index n
+  pub second : AcceptedIndex u other m
+  pub fits : n ≤ length index
+  pub others-fit : m ≤ length other
+
+module _ {s u index other : List ℕ} {n m : ℕ} (b : Both s u index other n m) where
+  abbrev t : SpeltTree
+  t = b .first .tree
+
+  abbrev v : SpeltTree
+  v = b .second .tree
+
+  abbrev firstAccepted : Accepted s t
+  firstAccepted = accepted-table s (b .bytes) t (b .first .judged)
+
+  abbrev secondAccepted : Accepted u v
+  secondAccepted = accepted-table u (b .others) v (b .second .judged)
+
+  first-short : length s ≤ longest
+  first-short = omega (arith, ap length (firstAccepted .written), firstAccepted .fit .size)
+
+  second-short : length u ≤ longest
+  second-short = omega (arith, ap length (secondAccepted .written), secondAccepted .fit .size)
+
+  pub may-open : IsAccepted s × AcceptedIndex u other m × (m ≤ length other) × (m ≤ most) × (length s ≤ longest) × (length u ≤ longest)
+  may-open =
+      (record { tree = t; judged = b .first .judged }, b .second, b .others-fit, accepted-few (b .others) (b .second), first-short, second-short)
+
+  -- what is opened rises
+  opened-sorted : Sorted (opened (pagesOf t) v)
+  opened-sorted =
+      let f = secondAccepted .fit in
+      let p : Proper (records v) = record { order = rising-sorted (records v) (f .order); keys = f .keys; values = f .values } in
+      proper-part (opened-part (pagesOf t) v) p .order
+
+  module _ (r : Opening) (row : List ℕ) (o : (w : SpeltTree) → judge u ≡ accepted w → OpenedStaged (pagesIn (judge s)) w other m r row) (size : length row ≡ most) where
+    staged : OpenedStaged (pagesOf t) v other m r row
+    unfolding pagesIn
+    staged = rw (b .first .judged) at (o v (b .second .judged))
+
+    enough : m ≤ length row
+    enough = omega (arith, accepted-few (b .others) (b .second))
+
+    pub may-leave : Row s u index n × Row s u row (r .staged) × (most ≤ most)
+    may-leave = (
+      accepted-row s index t n (b .bytes) (b .first .judged) (b .first .indexed) (b .first .size) (b .fits) u (omega (arith, second-short)),
+      row-staged s u other m (b .others) (b .second) (b .others-fit) (pagesOf t) r row staged enough (omega (arith, first-short)),
+      omega arith,
+    )
+
+    -- each opened page has at least one byte
+    pub small-counts : (r .staged ≤ most) × (r .opened ≤ longest)
+    unfolding tableOf
+    small-counts =
+        let e : u ≡ table v = secondAccepted .written ∙ ap table (sym (secondAccepted .spells)) in
+        (omega (arith, staged .fits, accepted-few (b .others) (b .second)), omega (arith, staged .opened, opened-few (pagesOf t) v, ap length e, second-short))
+
+    sifted-records : siftedOf s u index n row (r .staged) ≡ differenceRecords t v
+    unfolding siftedOf differenceRecords
+    sifted-records =
+        rw (
+          accepted-records s index t n (b .bytes) (b .first .judged) (b .first .indexed) (b .first .size) (b .fits) u,
+          records-staged s u other m (b .others) (b .second) (b .others-fit) (pagesOf t) r row staged enough,
+        )
+        (sift-lacking (records t) (opened (pagesOf t) v) opened-sorted)
+
+    module _ (row′ : List ℕ) (k : ℕ) (w : RowOf s u row′ k (siftedOf s u index n row (r .staged))) (room : ℕ) where
+      row-records : recordsOf s u row′ k ≡ differenceRecords t v
+      row-records = w .records ∙ sifted-records
+
+      -- number 5 is never due
+      few : length (differenceRecords t v) ≤ most
+      few = omega (arith, w .whole .few, sym (ap length row-records), records-length s u row′ k (w .whole .room))
+
+      outcome : differenceOutcome s u room ≡ settled (differenceRecords t v) few room (r .opened)
+      unfolding differenceOutcome differenceVerdicts
+      outcome = rw (b .first .judged, b .second .judged, staged .opened)
+
+      module _ (answer : Answer) (out : List ℕ)
+          (says : (answer ≡ tableAnswer (tableOf (recordsOf s u row′ k)) room) × (out ≡ tableOutput (tableOf (recordsOf s u row′ k)) room)) where
+        wrote : out ≡ differenceOutput (differenceOutcome s u room) room
+        wrote = says .1 ∙ rw (row-records, outcome) (settled-output (differenceRecords t v) few room (r .opened))
+
+        pub difference-found : (n : ℕ) → answer ≡ Done n
+            → (Found n (r .opened) ≡ differenceAnswer (differenceOutcome s u room)) × (out ≡ differenceOutput (differenceOutcome s u room) room)
+        difference-found n e =
+            (rw outcome (settled-found (differenceRecords t v) few room (r .opened) answer (rw row-records at (says .0)) n e), wrote)
+
+        pub difference-refused : (q : Refusal) → answer ≡ AnswerRefused q
+            → (Refused q ≡ differenceAnswer (differenceOutcome s u room)) × (out ≡ differenceOutput (differenceOutcome s u room) room)
+        difference-refused q e =
+            (rw outcome (settled-refused (differenceRecords t v) few room (r .opened) answer (rw row-records at (says .0)) q e), wrote)
+
+-- ---- the length that is answered
+module _ (room : ℕ) where
+  settled-fits : (o : Option Refusal) (rs : List Record) (count : ℕ) → (o ≡ none → length (tableOf rs) ≤ longest) → LengthFits (differenceAnswer (settleDifference o rs count))
+  unfolding settleDifference differenceAnswer
+  settled-fits none rs count f = omega (arith, f refl)
+  settled-fits (some r) rs count f = tt
+
+  verdicts-fit : (v w : Verdict) → LengthFits (differenceAnswer (differenceVerdicts v w room))
+  unfolding differenceVerdicts differenceAnswer
+  verdicts-fit (refused r) w = tt
+  verdicts-fit (accepted t) (refused r) = tt
+  verdicts-fit (accepted t) (accepted u) =
+      let rs : List Record = differenceRecords t u in
+      settled-fits (due (sizes rs room)) rs (countOpened (pagesOf t) u) (λ e. sized rs room (due-none (sizes rs room) e) .size)
+
+pub length-fits : (s u : List ℕ) (room : ℕ) → LengthFits (differenceAnswer (differenceOutcome s u room))
+unfolding differenceOutcome
+length-fits s u room = verdicts-fit room (judge s) (judge u)
+
+-- ---- a register that is refused
+module _ (s u : List ℕ) (room : ℕ) (q : Refusal) (out : List ℕ) (cleared : out ≡ zeros room) where
+  pub first-refused : judge s ≡ refused q
+      → (Refused q ≡ differenceAnswer (differenceOutcome s u room)) × (out ≡ differenceOutput (differenceOutcome s u room) room)
+  unfolding differenceOutcome differenceVerdicts differenceAnswer differenceOutput
+  first-refused e = rw e (refl, cleared)
+
+  pub second-refused : (t : SpeltTree) → judge s ≡ accepted t → judge u ≡ refused q
+      → (Refused q ≡ differenceAnswer (differenceOutcome s u room)) × (out ≡ differenceOutput (differenceOutcome s u room) room)
+  unfolding differenceOutcome differenceVerdicts differenceAnswer differenceOutput
+  second-refused t e f = rw (e, f) (refl, cleared)

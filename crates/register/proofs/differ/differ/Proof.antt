@@ -1,0 +1,91 @@
+use native.Mathlib.Omega.{arith}
+use lib.ListN.{length}
+use Rattle.page.proofs.Tools.{bytes-of}
+use Rattle.register.proofs.Differing.{Both, may-open, may-leave, small-counts, difference-found, difference-refused}
+use borrow.Author.Needs.{needs}
+use Rattle.register.proofs.differ.differ.Statement.{statement}
+use Rattle.register.proofs.differ.differ.Tie as tie
+use Rattle.register.proofs.differ.differ.Reads as reads
+use Rattle.register.proofs.differ.differ.Lts as lts
+use Rattle.opened.proofs.pass.open_pages.Reads as open-pages-reads
+use Rattle.choice.proofs.sift.leave_held.Reads as leave-held-reads
+use Rattle.writer.proofs.write_table.Reads as write-table-reads
+
+-- the two registers, as they were lent
+both : (c : lts.After-shared-slice-known2 (open-pages-reads.Asked, open-pages-reads.Learnt, leave-held-reads.Asked, leave-held-reads.Learnt, write-table-reads.Asked, write-table-reads.Learnt) reads.Pre reads.Post)
+    → Both (c .before .before .args .first .now) (c .before .before .args .second .now) (c .before .before .args .index .now) (c .before .before .args .other .now) (c .before .before .args .n) (c .before .before .args .m)
+both c = record {
+  bytes = bytes-of (c .before .before .args .first .now) (λ i h. omega (arith, c .before .shared-slice-known .given i));
+  others = bytes-of (c .before .before .args .second .now) (λ i h. omega (arith, c .shared-slice-known2 .given i));
+  first = c .before .before .pre .0;
+  second = c .before .before .pre .1;
+  fits = c .before .before .pre .2;
+  others-fit = c .before .before .pre .3;
+}
+
+slice-aggregate-open-pages : tie.Need-slice-aggregate-open-pages
+slice-aggregate-open-pages c = search needs
+
+open-pages-requires : tie.Need-open-pages-requires
+open-pages-requires c κs =
+    may-open (both (c .before .before .before .before))
+
+cast-opened : tie.Need-cast-opened
+cast-opened c =
+    omega (arith, small-counts (both (c .before .before .before .before .before .before .before)) (c .before .before .open-pages .result) _ (c .before .before .open-pages .ensures) (c .before .before .open-pages .kept .1 .1 .1 .1 .0))
+
+slice-aggregate-leave-held : tie.Need-slice-aggregate-leave-held
+slice-aggregate-leave-held c = search needs
+
+slice-aggregate-leave-held-2 : tie.Need-slice-aggregate-leave-held-2
+slice-aggregate-leave-held-2 c = search needs
+
+leave-held-requires : tie.Need-leave-held-requires
+leave-held-requires c κs =
+    may-leave (both (c .before .before .before .before .before .before .before .before .before)) (c .before .before .before .before .open-pages .result) _ (c .before .before .before .before .open-pages .ensures) (c .before .before .before .before .open-pages .kept .1 .1 .1 .1 .0)
+
+slice-aggregate-write-table : tie.Need-slice-aggregate-write-table
+slice-aggregate-write-table c = search needs
+
+write-table-requires : tie.Need-write-table-requires
+write-table-requires c κs =
+    c .before .before .before .leave-held .ensures .whole
+
+enum-known-length : tie.Need-enum-known-length
+enum-known-length c = search needs
+
+enum-known-refusal : tie.Need-enum-known-refusal
+enum-known-refusal c = search needs
+
+same-length : tie.Need-same-length
+same-length c = search needs
+
+returns : tie.Need-returns
+returns c =
+    difference-found (both (c .before .before .before .before .before .before .before .before .before .before .before .before .before .before .before .before .before .before .before)) (c .before .before .before .before .before .before .before .before .before .before .before .before .before .before .open-pages .result) _ (c .before .before .before .before .before .before .before .before .before .before .before .before .before .before .open-pages .ensures) (c .before .before .before .before .before .before .before .before .before .before .before .before .before .before .open-pages .kept .1 .1 .1 .1 .0) _ _ (c .before .before .before .before .before .before .before .before .before .leave-held .ensures) (length (c .before .before .before .before .before .before .before .before .before .before .before .before .before .before .before .before .before .before .before .before .before .args .out .now)) (c .before .before .before .before .before .write-table .result) _ (c .before .before .before .before .before .write-table .ensures) _ (c .before .length .given .1)
+
+same-length-2 : tie.Need-same-length-2
+same-length-2 c = search needs
+
+returns-2 : tie.Need-returns-2
+returns-2 c =
+    difference-refused (both (c .before .before .before .before .before .before .before .before .before .before .before .before .before .before .before .before .before .before .before)) (c .before .before .before .before .before .before .before .before .before .before .before .before .before .before .open-pages .result) _ (c .before .before .before .before .before .before .before .before .before .before .before .before .before .before .open-pages .ensures) (c .before .before .before .before .before .before .before .before .before .before .before .before .before .before .open-pages .kept .1 .1 .1 .1 .0) _ _ (c .before .before .before .before .before .before .before .before .before .leave-held .ensures) (length (c .before .before .before .before .before .before .before .before .before .before .before .before .before .before .before .before .before .before .before .before .before .args .out .now)) (c .before .before .before .before .before .write-table .result) _ (c .before .before .before .before .before .write-table .ensures) _ (c .before .refusal .given .1)
+
+pub differ-spec : {M : Type 1} → statement M
+differ-spec =
+    tie.close
+    (tie.spec
+    slice-aggregate-open-pages
+    open-pages-requires
+    cast-opened
+    slice-aggregate-leave-held
+    slice-aggregate-leave-held-2
+    leave-held-requires
+    slice-aggregate-write-table
+    write-table-requires
+    enum-known-length
+    enum-known-refusal
+    same-length
+    returns
+    same-length-2
+    returns-2)
