@@ -1,15 +1,13 @@
 -- The records of an accepted register, by their number.
 use Prim.Native.Nat.{ℕ, zero, suc, _+_, _≤_, _<_}
 use mathlib.Core.Path.{_≡_, refl, sym, ap, subst, _∙_}
-use mathlib.Core.Bool.{true, false≢true}
+use mathlib.Core.Bool.{true}
 use mathlib.Core.Option.{none, some}
 use mathlib.Core.List.{List, [], _∷_, _++_}
 use native.Mathlib.Omega.{arith}
 use lib.ListN.{length, take, drop, getD}
 use lib.Seq.{take-all}
-use lib.Dec.{ltb}
-use borrow.Author.Tests.{le-leb, lt-leb, ltb-true, ltb-false}
-use borrow.Table.Steps.{cases}
+use borrow.Author.Tests.{le-leb, lt-leb}
 use Rattle.answer.specs.declared.Refusal.{Refusal}
 use Rattle.answer.specs.declared.Refusal.the-variants.{NoRoom}
 use Rattle.answer.specs.declared.Answer.{Answer}
@@ -17,7 +15,7 @@ use Rattle.answer.specs.declared.Answer.the-variants.{Done, Refused}
 use Rattle.fips180.specs.Bytes.{Bytes}
 use Rattle.fips180.specs.Hash.{zeros}
 use Rattle.key.specs.Key.{lawful}
-use Rattle.key.proofs.Lawful.{too-long}
+use Rattle.key.proofs.Laws.{lawful-length}
 use Rattle.tree.specs.Record.{Record, records}
 use Rattle.tree.specs.Judge.{allLawful, refused, judge}
 use Rattle.page.proofs.Tools.{and-inv}
@@ -54,9 +52,6 @@ unfolding allLawful
 lawful-at n [] d h e = absurd (omega arith)
 lawful-at zero (r ∷ rs) d h e = and-inv (lawful (r .key)) e .0
 lawful-at (suc n) (r ∷ rs) d h e = lawful-at n rs d (omega arith) (and-inv (lawful (r .key)) e .1)
-
-lawful-short : (k : List ℕ) → lawful k ≡ true → length k ≤ 256
-lawful-short k e = cases (ltb 256 (length k)) (λ q. absurd (false≢true (too-long k (ltb-true 256 (length k) q) ∙ e))) (λ q. ltb-false 256 (length k) q)
 
 -- ---- what a call of list answers and writes
 abbrev pub ListSays : Listed → ℕ → Answer → List ℕ → List ℕ → Type 0
@@ -105,7 +100,7 @@ module _ {s index : List ℕ} {count : ℕ} (a : AcceptedIndex s index count) (b
       let l : lawful (getD (records (a .tree)) n (blank .item) .key) ≡ true =
       lawful-at n (records (a .tree)) (blank .item) among (all-lawful (records (a .tree)) (accepted-table s b (a .tree) (a .judged) .fit .keys)) in
       subst (λ (r : Record). length (r .key) ≤ 256) (sym (slot-record 0 0 (a .tree) n blank within (blank .item)))
-      (lawful-short (getD (records (a .tree)) n (blank .item) .key) l)
+      (lawful-length (getD (records (a .tree)) n (blank .item) .key) l)
 
   module _ (buffer₀ buffer : List ℕ) (found : Found) (f : FetchSays s (getD index n 0) buffer₀ 0 buffer found) (i : n < length index) where
     -- its key and the place of its value are found

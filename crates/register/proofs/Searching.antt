@@ -1,7 +1,7 @@
 -- The place of a key's value, by halves of the index.
 use Prim.Native.Nat.{ℕ, zero, suc, _+_, _-_, _/_, _≤_, _<_}
 use mathlib.Core.Path.{_≡_, refl, sym, ap, subst, _∙_}
-use mathlib.Core.Bool.{true, false, false≢true}
+use mathlib.Core.Bool.{true, false}
 use mathlib.Core.Option.{none, some}
 use mathlib.Core.List.{List, [], _∷_}
 use native.Mathlib.Omega.{arith}
@@ -13,8 +13,7 @@ use Rattle.fips180.specs.Bytes.{Bytes}
 use Rattle.key.specs.Key.{lawful, less, order}
 use Rattle.key.specs.declared.order.Order.{Order}
 use Rattle.key.specs.declared.order.Order.the-variants.{Less, Equal, Greater}
-use Rattle.key.proofs.Lawful.{too-long}
-use Rattle.key.proofs.Laws.{less-irreflexive, less-transitive, less-asymmetric, order-less, order-equal, order-greater}
+use Rattle.key.proofs.Laws.{lawful-length, less-irreflexive, less-transitive, less-asymmetric, order-less, order-equal, order-greater}
 use Rattle.page.proofs.Tools.{and-inv}
 use Rattle.tree.specs.Record.{Record, records}
 use Rattle.tree.specs.Table.{SpeltTree}
@@ -56,16 +55,10 @@ rising-at (r ∷ rs) h i zero l g = absurd (omega arith)
 rising-at (r ∷ rs) h zero (suc j) l g = rising-first r rs h j (omega arith)
 rising-at (r ∷ rs) h (suc i) (suc j) l g = rising-at rs (rising-rest r rs h) i j (omega arith) (omega arith)
 
--- a lawful key has at most 256 bytes
-lawful-short : (k : List ℕ) → lawful k ≡ true → length k ≤ 256
-lawful-short k h =
-    cases (leb (length k) 256) (leb-true (length k) 256)
-    (λ q. absurd (false≢true (too-long k (leb-false (length k) 256 q) ∙ h)))
-
 short-at : (rs : List Record) → allLawful rs ≡ true → (i : ℕ) → i < length rs → length (keyAt rs i) ≤ 256
 unfolding allLawful
 short-at [] h i g = absurd (omega arith)
-short-at (r ∷ rs) h zero g = lawful-short (r .key) (and-inv (lawful (r .key)) h .0)
+short-at (r ∷ rs) h zero g = lawful-length (r .key) (and-inv (lawful (r .key)) h .0)
 short-at (r ∷ rs) h (suc i) g = short-at rs (and-inv (lawful (r .key)) h .1) i (omega arith)
 
 -- ---- the place of a key

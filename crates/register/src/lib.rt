@@ -4,7 +4,6 @@ pub mod differ; // the difference of two registers that are accepted
 pub mod search; // the place of a key's value
 pub mod write; // what the writing calls write
 
-use crate::bytes::clear;
 use crate::bytes::copy_in;
 use crate::differ::differ;
 use crate::search::Searched;
@@ -22,6 +21,7 @@ use index::judge;
 use key::rule::is_lawful;
 use row::bytes::value_at;
 use row::fetch::fetch_from;
+use writer::output::clear;
 use writer::write_table;
 ghost use mathlib.Core.Path.{_≡_};
 ghost use lib.ListN.{length};

@@ -1,9 +1,9 @@
 // What the writing calls write.
-use crate::bytes::clear;
 use answer::Answer;
 use answer::Refusal;
 use choice::choose::Chosen;
 use choice::choose::choose;
+use writer::output::clear;
 use writer::write_table;
 ghost use mathlib.Core.Path.{_≡_};
 ghost use lib.ListN.{length};
