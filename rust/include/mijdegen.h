@@ -123,9 +123,9 @@ uint64_t mijdegen_list(const uint8_t *reg, size_t reg_len, uint64_t n, uint8_t *
                        size_t out_len, uint8_t value[MIJDEGEN_DIGEST_LENGTH]);
 
 /*
- * The four functions below write the register of a changed set of records. Its table stands at
- * the start of out, with zeros after it up to out_len bytes. The number of the answer is 0 and its
- * value is the length of the table.
+ * The five functions below write a register. Its table stands at the start of out, with zeros
+ * after it up to out_len bytes. The number of the answer is 0 and its value is the length of the
+ * table; that of mijdegen_difference holds more.
  *
  * Otherwise the answer is the first of these numbers that is due, and out is wholly zero:
  *
@@ -167,6 +167,31 @@ uint64_t mijdegen_remove(const uint8_t *reg, size_t reg_len, const uint8_t *key,
  */
 uint64_t mijdegen_merge(const uint8_t *first, size_t first_len, const uint8_t *second,
                         size_t second_len, uint8_t *out, size_t out_len);
+
+/*
+ * Writes the register of what the second register holds and the first does not: all records in
+ * opened pages of the second that the first does not hold, key and value. A page of the second is
+ * known when its digest is that of some page of the first, wherever it stands there; it is opened
+ * when neither it nor a page above it is known. The result joined into the first by mijdegen_merge
+ * gives what the whole second register would give.
+ *
+ * The value of the answer is the length of the table plus 2^24 times the number of opened pages.
+ * Take it apart with mijdegen_difference_length and mijdegen_difference_opened.
+ */
+uint64_t mijdegen_difference(const uint8_t *first, size_t first_len, const uint8_t *second,
+                             size_t second_len, uint8_t *out, size_t out_len);
+
+/* The length of the table in an answer of mijdegen_difference: 0 where the call was refused. */
+static inline size_t mijdegen_difference_length(uint64_t answer)
+{
+    return (size_t)(mijdegen_value(answer) & 0xffffffu);
+}
+
+/* The number of opened pages in an answer of mijdegen_difference: 0 where it was refused. */
+static inline size_t mijdegen_difference_opened(uint64_t answer)
+{
+    return (size_t)(mijdegen_value(answer) >> 24);
+}
 
 #ifdef __cplusplus
 }

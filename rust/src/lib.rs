@@ -345,7 +345,72 @@ pub fn merge(first: &[u8], second: &[u8], out: &mut [u8]) -> Result<usize, Refus
     Ok(count(outcome(sys::merge(first, second, out))?))
 }
 
-/// Gives a value of the library that counts bytes or records of a slice.
+/// What [`difference`] gives. The table stands at the start of the output.
+#[derive(Clone, Copy, Debug, PartialEq, Eq)]
+pub struct Difference {
+    /// The length of the table.
+    pub length: usize,
+    /// The number of opened pages of the second register.
+    pub opened: usize,
+}
+
+/// Writes the register of what the second register holds and the first does not: all records in
+/// opened pages of the second that the first does not hold, key and value. Gives the length of its
+/// table and the number of opened pages.
+///
+/// A page of the second is known when its digest is that of some page of the first, wherever it
+/// stands there. It is opened when neither it nor a page above it is known. Equal registers have
+/// no opened page, and their difference is the empty register.
+///
+/// Joined into the first by [`merge`], the result gives what the whole second register would give.
+/// The output is written as by [`put`].
+///
+/// # Errors
+///
+/// One of the refusals 1 to 10 where [`check`] refuses the first register, then where it refuses
+/// the second; then [`Refusal::NoRoom`] where the result's table is longer than the output, or
+/// than [`LONGEST`] bytes.
+///
+/// # Examples
+///
+/// ```
+/// use mijdegen::{difference, merge, put, Difference, Refusal};
+///
+/// let empty = b"\xa2\x61e\x80\x61l\xf6";
+/// let (mut first, mut only_b2, mut second) = ([0; 64], [0; 64], [0; 200]);
+/// put(empty, b"a/b1", &[0x11; 32], &mut first)?;
+/// put(empty, b"a/b2", &[0x22; 32], &mut only_b2)?;
+/// let length = put(&first, b"a/b2", &[0x22; 32], &mut second)?;
+/// let second = &second[..length];
+///
+/// // The second has two pages. The lower one is the first register's only page, and known.
+/// let mut out = [0xaa; 70];
+/// let found = difference(&first, second, &mut out)?;
+/// assert_eq!(found, Difference { length: 64, opened: 1 });
+/// assert_eq!(out[..64], only_b2);
+/// assert_eq!(out[64..], [0; 6]);
+///
+/// let mut merged = [0; 200];
+/// assert_eq!(merge(&first, &out[..64], &mut merged), Ok(length));
+/// assert_eq!(merged[..length], *second);
+///
+/// // The other way round nothing is lacking: the only page is known.
+/// let found = difference(second, &first, &mut out)?;
+/// assert_eq!(found, Difference { length: 7, opened: 0 });
+/// assert_eq!(out[..7], *empty);
+///
+/// assert_eq!(difference(&first, second, &mut out[..63]), Err(Refusal::NoRoom));
+/// # Ok::<(), Refusal>(())
+/// ```
+pub fn difference(first: &[u8], second: &[u8], out: &mut [u8]) -> Result<Difference, Refusal> {
+    let value = outcome(sys::difference(first, second, out))?;
+    Ok(Difference {
+        length: count(value % (1 << 24)),
+        opened: count(value >> 24),
+    })
+}
+
+/// Gives a value of the library that counts bytes, records or pages of a slice.
 fn count(value: u64) -> usize {
     usize::try_from(value).expect("the library counts no more than a slice holds")
 }

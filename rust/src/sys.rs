@@ -54,6 +54,14 @@ extern "C" {
         out: *mut u8,
         out_len: usize,
     ) -> u64;
+    fn mijdegen_difference(
+        first: *const u8,
+        first_len: usize,
+        second: *const u8,
+        second_len: usize,
+        out: *mut u8,
+        out_len: usize,
+    ) -> u64;
 }
 
 /// Writes the digest of the input, or zeros on refusal, and gives the answer.
@@ -165,6 +173,23 @@ pub(crate) fn merge(first: &[u8], second: &[u8], out: &mut [u8]) -> u64 {
     // SAFETY: As for `put`.
     unsafe {
         mijdegen_merge(
+            first.as_ptr(),
+            first.len(),
+            second.as_ptr(),
+            second.len(),
+            out.as_mut_ptr(),
+            out.len(),
+        )
+    }
+}
+
+/// Writes the register of the records that the second register holds and the first does not, or
+/// zeros on refusal, and gives the answer that holds the table's length and the number of opened
+/// pages.
+pub(crate) fn difference(first: &[u8], second: &[u8], out: &mut [u8]) -> u64 {
+    // SAFETY: As for `put`.
+    unsafe {
+        mijdegen_difference(
             first.as_ptr(),
             first.len(),
             second.as_ptr(),

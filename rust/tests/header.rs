@@ -44,7 +44,16 @@ fn the_header_has_the_same_functions() {
 
     let names: Vec<&str> = found.iter().map(|(name, _)| name.as_str()).collect();
     let calls = [
-        "digest", "layer", "check", "lookup", "list", "put", "join", "remove", "merge",
+        "digest",
+        "layer",
+        "check",
+        "lookup",
+        "list",
+        "put",
+        "join",
+        "remove",
+        "merge",
+        "difference",
     ];
     assert_eq!(names, calls);
 }

@@ -5,7 +5,7 @@ mod common;
 
 use common::forge::{faulty_registers, one_record, EMPTY};
 use common::sets::{set, Kind};
-use common::writes::{expect_outcome, expect_refusal, Call};
+use common::writes::{difference_value, expect_outcome, expect_refusal, Call};
 use independent::{table, Set};
 
 const VALUE: [u8; 32] = [0x11; 32];
@@ -127,6 +127,32 @@ fn merge() {
         }
     }
     assert_eq!(cases, (10 + 1) * 3);
+}
+
+/// First register, second register, output: all combinations of faults. No difference has more
+/// records than the second register, so number 5 is due on lent registers alone.
+#[test]
+fn difference() {
+    let full = table(&full());
+    let mut cases = 0;
+    for (first, first_number) in registers(&[EMPTY.to_vec(), full.clone()]) {
+        for (second, second_number) in registers(&[one_record()]) {
+            for (out_length, no_room) in [(64, None), (63, Some(13)), (0, Some(13))] {
+                let due = [first_number, second_number, no_room];
+                let mut output = vec![0; out_length];
+                let expected = match due.iter().flatten().next() {
+                    Some(number) => Err(*number),
+                    None => {
+                        output.copy_from_slice(&one_record());
+                        Ok(difference_value(64, 1))
+                    }
+                };
+                expect_outcome(&first, &Call::difference(&second), expected, &output);
+                cases += 1;
+            }
+        }
+    }
+    assert_eq!(cases, (10 + 2) * (10 + 1) * 3);
 }
 
 /// The count that results is judged behind what is handed over and before the output.

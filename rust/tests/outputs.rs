@@ -2,12 +2,14 @@
 
 mod common;
 
-use common::calls::{mijdegen_join, mijdegen_merge, mijdegen_put, mijdegen_remove};
+use common::calls::{
+    mijdegen_difference, mijdegen_join, mijdegen_merge, mijdegen_put, mijdegen_remove,
+};
 use common::forge::{one_record, EMPTY};
 use common::sets::{part, set, set_of_layers, Kind};
 use common::writes::{expect_refusal, expect_table, Call};
 use independent::{table, Set, LONGEST};
-use mijdegen::{join, merge, put, remove, Refusal};
+use mijdegen::{difference, join, merge, put, remove, Refusal};
 use std::ptr;
 
 const VALUE: [u8; 32] = [0x11; 32];
@@ -133,6 +135,10 @@ fn lengths_over_32_bits() {
     refused(remove(register, b"a/b1", &mut out), too_long, &mut out);
     refused(merge(register, &EMPTY, &mut out), too_long, &mut out);
     refused(merge(&EMPTY, register, &mut out), too_long, &mut out);
+    for (first, second) in [(register, &EMPTY[..]), (&EMPTY, register)] {
+        let found = difference(first, second, &mut out).map(|found| found.length);
+        refused(found, too_long, &mut out);
+    }
 
     long[..4].copy_from_slice(b"a/b1");
     let key = &long[..(1 << 32) + 4];
@@ -176,9 +182,11 @@ fn raw_calls_do_not_touch_empty_buffers() {
         assert_eq!(mijdegen_remove(none, 0, none, 0, no_out, 0), 2);
         assert_eq!(mijdegen_remove(reg, reg_len, none, 0, no_out, 0), 7);
         assert_eq!(mijdegen_remove(reg, reg_len, key, 4, no_out, 0), 13);
-        assert_eq!(mijdegen_merge(none, 0, none, 0, no_out, 0), 2);
-        assert_eq!(mijdegen_merge(reg, reg_len, none, 0, no_out, 0), 2);
-        assert_eq!(mijdegen_merge(none, 0, reg, reg_len, no_out, 0), 2);
-        assert_eq!(mijdegen_merge(reg, reg_len, reg, reg_len, no_out, 0), 13);
+        for call in [mijdegen_merge, mijdegen_difference] {
+            assert_eq!(call(none, 0, none, 0, no_out, 0), 2);
+            assert_eq!(call(reg, reg_len, none, 0, no_out, 0), 2);
+            assert_eq!(call(none, 0, reg, reg_len, no_out, 0), 2);
+            assert_eq!(call(reg, reg_len, reg, reg_len, no_out, 0), 13);
+        }
     }
 }

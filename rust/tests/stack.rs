@@ -58,6 +58,8 @@ fn call_with_small_stack(register: Vec<u8>, key: &[u8], n: usize) -> u8 {
     write_with_small_stack(&register, Call::remove(key), room);
     write_with_small_stack(&register, Call::merge(&register), room);
     write_with_small_stack(&EMPTY, Call::merge(&register), room);
+    write_with_small_stack(&EMPTY, Call::difference(&register), room);
+    write_with_small_stack(&register, Call::difference(&EMPTY), room);
 
     let key = key.to_vec();
     let found = with_small_stack(move || {
@@ -172,9 +174,9 @@ fn the_longest_inputs() {
 }
 
 /// Merges that give 4,096 records, of halves and of every second record, with the keys of the
-/// highest layers in one part, in both, or in none.
+/// highest layers in one part, in both, or in none. The differences of the same registers too.
 #[test]
-fn the_largest_merges() {
+fn the_largest_merges_and_differences() {
     let mut cases = 0;
     for kind in KINDS {
         let set = set(kind, 4_096);
@@ -185,12 +187,15 @@ fn the_largest_merges() {
         let whole = table(&set);
         for (one, other) in &parts {
             let (first, call) = (table(one), Call::merge(&table(other)));
+            for second in [&whole, &table(other)] {
+                write_with_small_stack(&first, Call::difference(second), whole.len());
+            }
             let whole = whole.clone();
             with_small_stack(move || expect_table(&first, &call, whole.len(), &whole));
-            cases += 1;
+            cases += 3;
         }
     }
-    assert_eq!(cases, KINDS.len() * 2);
+    assert_eq!(cases, KINDS.len() * 2 * 3);
 
     // One page of long keys in which each key comes into a page of its own, below two others.
     let set = long_keys_in_turn(&[3, 0], 2_000);
@@ -218,17 +223,18 @@ fn the_deepest_results() {
     });
 }
 
-/// A deep register that is refused, as the second of a merge, behind a full one.
+/// A deep register that is refused, as the second of a merge or difference, behind a full one.
 #[test]
 fn a_full_register_and_a_deep_one() {
     let full = table(&set(Kind::Ordinary, 4_096));
     let mut cases = 0;
     for chain in [left_chain(129), right_chain(129, 31), left_chain(130)] {
-        let call = Call::merge(&chain.table());
-        write_with_small_stack(&full, call, full.len());
-        cases += 1;
+        for call in [Call::merge, Call::difference] {
+            write_with_small_stack(&full, call(&chain.table()), full.len());
+            cases += 1;
+        }
     }
-    assert_eq!(cases, 3);
+    assert_eq!(cases, 3 * 2);
 }
 
 /// Lists of calls on full registers: what the plain map answers is known before they run.

@@ -4,6 +4,7 @@ mod common;
 
 use common::lists::{List, Source};
 use common::sets::{set, value, Kind};
+use common::writes::{expect_outcome, Call};
 use common::Random;
 use independent::{table, Set};
 use mijdegen::{check, digest, layer, list, lookup_place, Listed, Refusal};
@@ -62,6 +63,35 @@ fn writing_calls_at_the_same_time() {
                 for _ in 0..3 {
                     for list in &lists {
                         assert_eq!(list.run().iter().sum::<usize>(), 60);
+                    }
+                }
+            });
+        }
+    });
+}
+
+#[test]
+fn differences_at_the_same_time() {
+    // 4 threads with 40 pairs of registers each, all different. What is due is known before they
+    // run side by side, 20 times each.
+    thread::scope(|scope| {
+        for seed in 1..=4 {
+            scope.spawn(move || {
+                let mut random = Random::new(30 + seed);
+                let source = Source::new(set(Kind::Mixed, 60).into_keys());
+                let cases: Vec<_> = (0..40)
+                    .map(|_| {
+                        let first = table(&source.set(&mut random, 60));
+                        let call = Call::difference(&table(&source.set(&mut random, 60)));
+                        let mut output = vec![0; 40_000];
+                        let expected = call.independent(&first, &mut output);
+                        (first, call, expected, output)
+                    })
+                    .collect();
+                for _ in 0..20 {
+                    for (first, call, expected, output) in &cases {
+                        assert!(expected.is_ok());
+                        expect_outcome(first, call, *expected, output);
                     }
                 }
             });

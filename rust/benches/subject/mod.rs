@@ -1,4 +1,4 @@
-//! Registers of 4,096 records, for the benches of the reading and of the writing calls.
+//! Registers with the times they cannot do without, for the benches of all calls but digest.
 
 // Each bench is compiled with its own copy of this module and may not use all of it.
 #![allow(dead_code)]
@@ -7,7 +7,7 @@ use crate::common::sets::{set, Kind};
 use independent::Set;
 use std::hint::black_box;
 
-/// A register of 4,096 records.
+/// A register, with its set and its pages.
 pub struct Subject {
     pub name: &'static str,
     pub kind: Kind,
@@ -18,26 +18,31 @@ pub struct Subject {
 }
 
 impl Subject {
-    /// Gives the registers that the calls are timed on. The first is the one that the others are
-    /// compared with.
+    /// Gives registers of 4,096 records that the calls are timed on. The first is the one that the
+    /// others are compared with.
     pub fn all() -> [Subject; 3] {
         [
-            Subject::new("ordinary records", Kind::Ordinary),
-            Subject::new("one page of 4,096 entries", Kind::OnePage),
-            Subject::new("2,048 entries with a page each", Kind::Alternating),
+            Subject::new("ordinary records", Kind::Ordinary, 4_096),
+            Subject::new("one page of 4,096 entries", Kind::OnePage, 4_096),
+            Subject::new("2,048 entries with a page each", Kind::Alternating, 4_096),
         ]
     }
 
-    fn new(name: &'static str, kind: Kind) -> Subject {
-        let set = set(kind, 4_096);
+    /// Gives the register of so many records.
+    pub fn new(name: &'static str, kind: Kind, count: usize) -> Subject {
+        Subject::of_set(name, kind, set(kind, count))
+    }
+
+    /// Gives the register of the set.
+    pub fn of_set(name: &'static str, kind: Kind, set: Set) -> Subject {
         let mut register = Vec::new();
         let mut page_ends = Vec::new();
         for page in independent::pages(&set) {
             register.extend(page);
             page_ends.push(register.len());
         }
-        assert_eq!(mijdegen::check(&register), Ok(4_096));
-        assert_eq!(independent::check(&register), Ok(4_096));
+        assert_eq!(mijdegen::check(&register), Ok(set.len()));
+        assert_eq!(independent::check(&register), Ok(set.len()));
         Subject {
             name,
             kind,
@@ -54,7 +59,8 @@ impl Subject {
 
     /// Gives the key in the middle.
     pub fn middle_key(&self) -> &[u8] {
-        self.set.keys().nth(2_048).expect("there are 4,096")
+        let middle = self.set.len() / 2;
+        self.set.keys().nth(middle).expect("there are records")
     }
 
     /// The library's own digest over each page and over each key, once each.

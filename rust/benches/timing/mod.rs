@@ -50,13 +50,19 @@ pub fn compare<A, B>(mut library: impl FnMut() -> A, mut independent: impl FnMut
 /// because the speed of the machine changes over time; the best, because all disturbances make a
 /// call slower.
 pub fn best_times(tasks: &mut [&mut dyn FnMut()]) -> Vec<f64> {
+    best_times_within(TOTAL, tasks)
+}
+
+/// As `best_times`, with the time that the samples of one task take together, where all tasks are
+/// equally fast.
+pub fn best_times_within(each: Duration, tasks: &mut [&mut dyn FnMut()]) -> Vec<f64> {
     let calls: Vec<u32> = tasks
         .iter_mut()
         .map(|task| calls_per_sample(*task))
         .collect();
     let mut best = vec![f64::INFINITY; tasks.len()];
 
-    let total = TOTAL * tasks.len() as u32;
+    let total = each * tasks.len() as u32;
     let start = Instant::now();
     let mut samples = 0;
     while samples < SAMPLES || start.elapsed() < total {

@@ -58,6 +58,14 @@ extern "C" {
         out: *mut u8,
         out_len: usize,
     ) -> u64;
+    pub fn mijdegen_difference(
+        first: *const u8,
+        first_len: usize,
+        second: *const u8,
+        second_len: usize,
+        out: *mut u8,
+        out_len: usize,
+    ) -> u64;
 }
 
 /// Gives the answer of the C interface: a value times 256, or the number of a refusal.
@@ -217,11 +225,16 @@ fn compare_refused(register: &[u8], number: u8) {
         Call::join(b"a/b1", &[0x11; 31]),
         Call::remove(b"a/b1"),
         Call::merge(b""),
+        Call::difference(b""),
     ];
     let turn = &calls[register.len() % calls.len()];
     expect_refusal(register, turn, register.len() % 100, number);
     // As the second register it is judged behind a first one that is accepted.
-    expect_refusal(&EMPTY, &Call::merge(register), 7, number);
+    let second = match register.len() % 2 {
+        0 => Call::merge(register),
+        _ => Call::difference(register),
+    };
+    expect_refusal(&EMPTY, &second, 7, number);
 }
 
 /// The last record is found and listed, in all but large registers also the first and the middle
@@ -251,8 +264,9 @@ fn compare_accepted(register: &[u8], count: usize) {
     assert_eq!(found.is_ok(), set.contains_key(&b"a/b1"[..]));
     assert_eq!(compare_lookup(register, b"ab"), Err(7));
 
-    // Merged with itself it is written anew.
+    // Merged with itself it is written anew, and it lacks nothing of itself: no page is opened.
     expect_table(register, &Call::merge(register), register.len(), register);
+    expect_table(register, &Call::difference(register), 7, &EMPTY);
 }
 
 /// Compares lookup with the independent crate, by the safe and by the C functions. Gives the

@@ -85,7 +85,7 @@ impl List {
 
 /// Draws the length of the output for a table of this length: just enough, more, one byte too
 /// short, none, and any that is too short.
-fn out_length(random: &mut Random, table: usize) -> usize {
+pub fn out_length(random: &mut Random, table: usize) -> usize {
     match random.below(20) {
         0..=6 => table,
         7..=13 => table + random.below(300),
@@ -139,7 +139,7 @@ impl Source {
     }
 
     /// Draws one of the keys, a present key, one near them, or an unlawful key.
-    fn key(&self, random: &mut Random, set: &Set) -> Vec<u8> {
+    pub fn key(&self, random: &mut Random, set: &Set) -> Vec<u8> {
         match random.below(16) {
             0..=7 => random.one_of(&self.keys).clone(),
             8..=11 if !set.is_empty() => {
@@ -155,8 +155,8 @@ impl Source {
         }
     }
 
-    /// Draws the second register of a merge, accepted or not.
-    fn second(&self, random: &mut Random, set: &Set) -> Vec<u8> {
+    /// Draws the second register of a merge or difference, accepted or not.
+    pub fn second(&self, random: &mut Random, set: &Set) -> Vec<u8> {
         match random.below(16) {
             0 => EMPTY.to_vec(),
             1 => table(set),
@@ -188,7 +188,7 @@ pub fn full_set(kind: Kind) -> (Set, Source) {
 
 /// Changes a byte of the register, cuts it or adds a byte. Sometimes the byte is one of a value
 /// in the root, and the register stays accepted.
-fn damaged(random: &mut Random, mut register: Vec<u8>) -> Vec<u8> {
+pub fn damaged(random: &mut Random, mut register: Vec<u8>) -> Vec<u8> {
     let place = random.below(register.len());
     match random.below(8) {
         0 => register.truncate(place),
@@ -199,7 +199,7 @@ fn damaged(random: &mut Random, mut register: Vec<u8>) -> Vec<u8> {
 }
 
 /// Draws a value, or one time in eight bytes of another length.
-fn drawn_value(random: &mut Random) -> Vec<u8> {
+pub fn drawn_value(random: &mut Random) -> Vec<u8> {
     let value = few_values(random);
     match random.below(8) {
         0 => {

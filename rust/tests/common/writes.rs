@@ -1,7 +1,11 @@
-//! The four writing calls as one type, and their comparison with the crate `independent`.
+//! The five writing calls as one type, and their comparison with the crate `independent`.
+//!
+//! A call that is done gives the value of its answer: the length of the table, and for difference
+//! 2^24 times the number of opened pages besides.
 
 use super::calls::{
-    answer, mijdegen_join, mijdegen_merge, mijdegen_put, mijdegen_remove, shown, Surrounded,
+    answer, mijdegen_difference, mijdegen_join, mijdegen_merge, mijdegen_put, mijdegen_remove,
+    shown, Surrounded,
 };
 use independent::{Set, LONGEST};
 use mijdegen::Refusal;
@@ -14,6 +18,17 @@ pub enum Call {
     Join { key: Vec<u8>, value: Vec<u8> },
     Remove { key: Vec<u8> },
     Merge { second: Vec<u8> },
+    Difference { second: Vec<u8> },
+}
+
+/// Gives the value of an answer from the table's length and the number of opened pages.
+pub fn difference_value(length: usize, opened: usize) -> usize {
+    length + (opened << 24)
+}
+
+/// Gives the table's length from the value of an answer. No table has 2^24 bytes.
+pub fn length_in(value: usize) -> usize {
+    value % (1 << 24)
 }
 
 impl Call {
@@ -41,6 +56,12 @@ impl Call {
         }
     }
 
+    pub fn difference(second: &[u8]) -> Call {
+        Call::Difference {
+            second: second.to_vec(),
+        }
+    }
+
     /// Calls the safe function.
     pub fn safe(&self, register: &[u8], out: &mut [u8]) -> Result<usize, u8> {
         let result = match self {
@@ -48,6 +69,8 @@ impl Call {
             Call::Join { key, value } => mijdegen::join(register, key, value, out),
             Call::Remove { key } => mijdegen::remove(register, key, out),
             Call::Merge { second } => mijdegen::merge(register, second, out),
+            Call::Difference { second } => mijdegen::difference(register, second, out)
+                .map(|found| difference_value(found.length, found.opened)),
         };
         result.map_err(Refusal::number)
     }
@@ -99,6 +122,14 @@ impl Call {
                     out.start(),
                     out_length,
                 ),
+                Call::Difference { second } => mijdegen_difference(
+                    reg,
+                    reg_len,
+                    lent(second),
+                    second.len(),
+                    out.start(),
+                    out_length,
+                ),
             }
         };
         assert!(copy == register, "the register was changed by {self:?}");
@@ -113,11 +144,14 @@ impl Call {
             Call::Join { key, value } => independent::join(register, key, value, out),
             Call::Remove { key } => independent::remove(register, key, out),
             Call::Merge { second } => independent::merge(register, second, out),
+            Call::Difference { second } => independent::difference(register, second, out)
+                .map(|(length, opened)| difference_value(length, opened)),
         }
     }
 
     /// Does to a plain set what the call does to its register, or gives the number that is due on
-    /// what the call is handed.
+    /// what the call is handed. Difference gives the records that the set lacks, which can be told
+    /// without any pages.
     pub fn change(&self, set: Set) -> Result<Set, u8> {
         match self {
             Call::Put { key, value } => independent::put_in(set, key, value),
@@ -126,6 +160,11 @@ impl Call {
             Call::Merge { second } => {
                 let second = independent::set_of(second)?;
                 Ok(independent::merge_in(set, &second))
+            }
+            Call::Difference { second } => {
+                let mut second = independent::set_of(second)?;
+                second.retain(|key, value| set.get(key) != Some(value));
+                Ok(second)
             }
         }
     }
@@ -143,6 +182,7 @@ impl fmt::Debug for Call {
             Call::Join { key, value } => write!(formatter, "join {} {}", text(key), shown(value)),
             Call::Remove { key } => write!(formatter, "remove {}", text(key)),
             Call::Merge { second } => write!(formatter, "merge {}", shown(second)),
+            Call::Difference { second } => write!(formatter, "difference {}", shown(second)),
         }
     }
 }
@@ -182,7 +222,7 @@ pub fn expect_refusal(register: &[u8], call: &Call, out_length: usize, number: u
 }
 
 /// Compares the call with the independent crate for an output of this length: the answer and
-/// every byte of the output, by the safe and by the C function. Gives the table's length.
+/// every byte of the output, by the safe and by the C function. Gives the value of the answer.
 pub fn compare_call(register: &[u8], call: &Call, out_length: usize) -> Result<usize, u8> {
     let mut output = vec![0x55; out_length];
     let expected = call.independent(register, &mut output);
@@ -199,8 +239,13 @@ pub fn compare_lengths(register: &[u8], call: &Call) -> Result<Vec<u8>, u8> {
     match &table {
         Ok(table) => {
             let length = table.len();
-            assert_eq!(compare_call(register, call, length), Ok(length));
-            expect_table(register, call, length + 1 + length % 90, table);
+            for out_length in [length, length + 1 + length % 90] {
+                let mut output = vec![0x55; out_length];
+                let expected = call.independent(register, &mut output);
+                assert_eq!(expected.map(length_in), Ok(length));
+                assert!(output[..length] == *table, "{call:?}");
+                expect_outcome(register, call, expected, &output);
+            }
             for short in [length - 1, 0] {
                 expect_refusal(register, call, short, 13);
             }
@@ -217,13 +262,14 @@ pub fn compare_lengths(register: &[u8], call: &Call) -> Result<Vec<u8>, u8> {
 pub fn written(register: &[u8], call: &Call) -> Vec<u8> {
     // Most results have room where the inputs would stand twice, and the others are tried again.
     let handed = match call {
-        Call::Merge { second } => second.len(),
+        Call::Merge { second } | Call::Difference { second } => second.len(),
         Call::Put { key, .. } | Call::Join { key, .. } | Call::Remove { key } => key.len(),
     };
     for room in [2 * (register.len() + handed) + 1_000, LONGEST] {
         let mut out = vec![0xaa; room];
         match call.safe(register, &mut out) {
-            Ok(length) => {
+            Ok(value) => {
+                let length = length_in(value);
                 assert!(out[length..].iter().all(|byte| *byte == 0), "{call:?}");
                 out.truncate(length);
                 return out;
