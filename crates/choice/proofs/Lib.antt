@@ -2,5 +2,3 @@ pub mod Weaving
 pub mod Choosing
 pub mod Turns
 pub mod WordLaws
-pub mod Sifting
-pub mod Leaving

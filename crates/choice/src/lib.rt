@@ -1,4 +1,3 @@
 // The records of a result, as a row. The functions are for the crates above and no public calls.
 pub mod choose; // the records of two rows
-pub mod sift; // the records that the first does not hold
 pub mod words; // words of rows

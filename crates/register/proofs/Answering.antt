@@ -26,9 +26,9 @@ use Rattle.index.specs.declared.Register.the-variants.{Accepted, Refused as Unf
 use Rattle.index.proofs.SlotLaws.{slots-places}
 use Rattle.index.proofs.Standing.{accepted-slots-stand, value-within}
 use Rattle.promises.specs.Outcome.{placeOf, lookupAnswer, lookupVerdict, answerPlace}
-use Rattle.register.specs.Search.{placeFound, SearchSays}
-use Rattle.register.specs.declared.search.Searched.{Searched}
-use Rattle.register.specs.declared.search.Searched.the-variants.{At, Absent}
+use Rattle.row.specs.Search.{placeFound, SearchSays}
+use Rattle.row.specs.declared.search.Searched.{Searched}
+use Rattle.row.specs.declared.search.Searched.the-variants.{At, Absent}
 use Rattle.choice.proofs.Choosing.{not-right, not-wrong}
 
 -- ---- every value of an accepted register stands within it

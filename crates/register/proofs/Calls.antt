@@ -31,13 +31,13 @@ use Rattle.row.proofs.Rows.{records-length, accepted-short, word-small, accepte
 use Rattle.writer.specs.Output.{tableAnswer, tableOutput}
 use Rattle.promises.specs.Map.{find, remove}
 use Rattle.promises.specs.Outcome.{Outcome, stopped, placeOf, answerOf, outputOf, removeOutcome, mergeOutcome}
-use Rattle.register.specs.Search.{SearchSays}
+use Rattle.row.specs.Search.{SearchSays}
 use Rattle.choice.specs.Choice.{choiceOf, weave, wovenOf, RowOf, ChooseSays, Below, ToSecond, LeftOut, Single}
 use Rattle.register.specs.Writing.{written, setOutcome}
 use Rattle.choice.specs.declared.choose.Chosen.{Chosen}
 use Rattle.choice.specs.declared.choose.Chosen.the-variants.{Count, TooMany}
-use Rattle.register.specs.declared.search.Searched.{Searched}
-use Rattle.register.specs.declared.search.Searched.the-variants.{At, Absent}
+use Rattle.row.specs.declared.search.Searched.{Searched}
+use Rattle.row.specs.declared.search.Searched.the-variants.{At, Absent}
 use Rattle.promises.proofs.MapLaws.{Sorted, rising-sorted}
 use Rattle.choice.proofs.Weaving.{weave-merge, remove-at, find-at}
 use Rattle.choice.proofs.Choosing.{all-first, first-at, all-drop, records-slice, records-front, not-right, not-wrong}

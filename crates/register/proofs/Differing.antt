@@ -40,12 +40,12 @@ use Rattle.opened.proofs.OpenFlags.{opened-picks}
 use Rattle.promises.specs.Outcome.{sizes}
 use Rattle.promises.specs.Difference.{Difference, stopped, found, differenceRecords, settleDifference, differenceVerdicts, differenceOutcome, differenceAnswer, differenceOutput}
 use Rattle.choice.specs.Choice.{RowOf}
-use Rattle.choice.specs.Sifting.{siftedOf}
+use Rattle.lacking.specs.Sifting.{siftedOf}
 use Rattle.promises.proofs.MapLaws.{Sorted, rising-sorted, Proper}
 use Rattle.promises.proofs.Steps.{sized}
 use Rattle.promises.proofs.DifferenceLaws.{proper-part, opened-part}
 use Rattle.choice.proofs.Choosing.{all-first, first-at}
-use Rattle.choice.proofs.Sifting.{sift-lacking}
+use Rattle.lacking.proofs.Sifting.{sift-lacking}
 use Rattle.register.proofs.Verdicts.{accepted-few}
 
 -- ---- no more pages are opened than the table has bytes

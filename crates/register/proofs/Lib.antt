@@ -1,7 +1,6 @@
 pub mod Outputs
 pub mod Verdicts
 pub mod Listings
-pub mod Searching
 pub mod Answering
 pub mod Writing
 pub mod Calls

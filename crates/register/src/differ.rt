@@ -1,7 +1,7 @@
 // The difference of two registers that are accepted.
 use answer::Answer;
 use answer::Differed;
-use choice::sift::leave_held;
+use lacking::sift::leave_held;
 use opened::pass::open_pages;
 use writer::write_table;
 ghost use mathlib.Core.Path.{_≡_};

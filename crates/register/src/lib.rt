@@ -1,13 +1,10 @@
 // The calls on registers.
 mod bytes; // bytes of outputs
 pub mod differ; // the difference of two registers that are accepted
-pub mod search; // the place of a key's value
 pub mod write; // what the writing calls write
 
 use crate::bytes::copy_in;
 use crate::differ::differ;
-use crate::search::Searched;
-use crate::search::search;
 use crate::write::refuse;
 use crate::write::write_chosen;
 use answer::Answer;
@@ -21,6 +18,8 @@ use index::judge;
 use key::rule::is_lawful;
 use row::bytes::value_at;
 use row::fetch::fetch_from;
+use row::search::Searched;
+use row::search::search;
 use writer::output::clear;
 use writer::write_table;
 ghost use mathlib.Core.Path.{_≡_};

@@ -2,3 +2,4 @@ pub mod Copying
 pub mod Ways
 pub mod Rows
 pub mod Memories
+pub mod Searching

@@ -8,7 +8,7 @@ use Rattle.register.proofs.differ.differ.Tie as tie
 use Rattle.register.proofs.differ.differ.Reads as reads
 use Rattle.register.proofs.differ.differ.Lts as lts
 use Rattle.opened.proofs.pass.open_pages.Reads as open-pages-reads
-use Rattle.choice.proofs.sift.leave_held.Reads as leave-held-reads
+use Rattle.lacking.proofs.sift.leave_held.Reads as leave-held-reads
 use Rattle.writer.proofs.write_table.Reads as write-table-reads
 
 -- the two registers, as they were lent

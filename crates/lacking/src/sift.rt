@@ -1,8 +1,8 @@
 // The second register's records that the first does not hold.
-use crate::choose::Chosen;
-use crate::choose::append;
-use crate::choose::cursor_at;
-use crate::choose::order_of;
+use choice::choose::Chosen;
+use choice::choose::append;
+use choice::choose::cursor_at;
+use choice::choose::order_of;
 use key::order::Order;
 use key::order::compare;
 use row::bytes::value_of;
@@ -11,8 +11,8 @@ ghost use Prim.Native.Nat.{_+_, _≤_, _<_};
 ghost use lib.ListN.{length};
 ghost use Rattle.tree.specs.Judge.{equal, most};
 ghost use Rattle.row.specs.Row.{sourceOf, Row};
 ghost use Rattle.choice.specs.Choice.{valueAt, RowOf};
-ghost use Rattle.choice.specs.Sifting.{siftedOf, Kept};
+ghost use Rattle.lacking.specs.Sifting.{siftedOf, Kept};
 
 // Whether the values of two words, at these places, are the same.
 fn is_same_value(s: &[u8], u: &[u8], first: u64, place: usize, second: u64, other: usize) -> bool

@@ -1,7 +1,7 @@
-use Rattle.choice.proofs.Leaving.{kept-other}
+use Rattle.lacking.proofs.Leaving.{kept-other}
 use borrow.Author.Needs.{needs}
-use Rattle.choice.proofs.sift.keep.Statement.{statement}
-use Rattle.choice.proofs.sift.keep.Tie as tie
+use Rattle.lacking.proofs.sift.keep.Statement.{statement}
+use Rattle.lacking.proofs.sift.keep.Tie as tie
 
 returns : tie.Need-returns
 returns c = search needs

@@ -27,12 +27,12 @@ use Rattle.index.proofs.Buffers.{holds-whole}
 use Rattle.index.proofs.SlotLaws.{slots-length, slots-places, slot-record, slot-place}
 use Rattle.index.proofs.Standing.{accepted-slot-stands}
 use Rattle.promises.specs.Outcome.{placeOf}
 use Rattle.row.specs.Row.{nothing}
 use Rattle.row.specs.Fetch.{Fetched, FetchSays}
 use Rattle.row.specs.declared.fetch.Found.{Found}
 use Rattle.row.proofs.Memories.{no-note}
-use Rattle.register.specs.Search.{keyAt, SearchSays}
-use Rattle.register.specs.declared.search.Searched.the-variants.{At, Absent}
+use Rattle.row.specs.Search.{keyAt, SearchSays}
+use Rattle.row.specs.declared.search.Searched.the-variants.{At, Absent}
 
 -- ---- the keys of a row of records
 rising-rest : (r : Record) (rs : List Record) → rising (r ∷ rs) ≡ true → rising rs ≡ true

@@ -18,13 +18,13 @@ use Rattle.tree.proofs.Laws.{equal-refl, equal-cases}
 use Rattle.row.specs.Row.{sourceOf, recordOf, Stands, Row, recordsOf}
 use Rattle.row.specs.Memory.{Recalls}
 use Rattle.row.proofs.Rows.{records-split, records-length}
 use Rattle.choice.specs.Choice.{valueAt, Held, AppendSays, RowOf}
-use Rattle.choice.specs.Sifting.{sift, siftedOf, Kept}
+use Rattle.lacking.specs.Sifting.{sift, siftedOf, Kept}
 use Rattle.choice.specs.declared.choose.Cursor.{Cursor}
 use Rattle.choice.specs.declared.choose.Chosen.{Chosen}
 use Rattle.choice.specs.declared.choose.Chosen.the-variants.{Count, TooMany}
 use Rattle.choice.proofs.Choosing.{all-first, first-at, records-past, records-cons, records-snoc}
-use Rattle.choice.proofs.Sifting.{sift-none, sift-end, sift-first, sift-second, sift-both}
+use Rattle.lacking.proofs.Sifting.{sift-none, sift-end, sift-first, sift-second, sift-both}
 
 -- ---- whether two values are the same
 module _ (v w v′ w′ : List ℕ) (ev : v′ ≡ v) (ew : w′ ≡ w) (o : Order) (e : o ≡ order v′ w′) where

@@ -1,8 +1,8 @@
 use Rattle.choice.specs.Choice.{valueAt}
-use Rattle.choice.proofs.Leaving.{value-less, value-equal, value-greater}
+use Rattle.lacking.proofs.Leaving.{value-less, value-equal, value-greater}
 use borrow.Author.Needs.{needs}
-use Rattle.choice.proofs.sift.is_same_value.Statement.{statement}
-use Rattle.choice.proofs.sift.is_same_value.Tie as tie
+use Rattle.lacking.proofs.sift.is_same_value.Statement.{statement}
+use Rattle.lacking.proofs.sift.is_same_value.Tie as tie
 
 value-of-requires : tie.Need-value-of-requires
 value-of-requires c κs = search needs

@@ -7,7 +7,7 @@ use Rattle.tree.specs.Record.{Record}
 use Rattle.tree.specs.Judge.{equal}
 use Rattle.promises.specs.Map.{find}
 use Rattle.promises.specs.Difference.{isValueThere, holds, lacking}
-use Rattle.choice.specs.Sifting.{siftBefore, sift}
+use Rattle.lacking.specs.Sifting.{siftBefore, sift}
 use Rattle.promises.proofs.MapLaws.{Before, Above, Sorted, above-before, find-before, find-here, find-later}
 
 -- ---- the pass, case by case

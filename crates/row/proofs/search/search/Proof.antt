@@ -6,9 +6,9 @@ use lib.ListN.{length}
 use lib.Seq.{length-take-le}
 use Rattle.fips180.specs.Bytes.{Bytes}
 use Rattle.page.proofs.Tools.{bytes-of}
-use Rattle.register.proofs.Searching.{Narrowed, search-begins, search-ends, search-over, search-above, search-below, search-meets}
-use Rattle.register.proofs.search.search.Statement.{statement}
-use Rattle.register.proofs.search.search.Tie as tie
+use Rattle.row.proofs.Searching.{Narrowed, search-begins, search-ends, search-over, search-above, search-below, search-meets}
+use Rattle.row.proofs.search.search.Statement.{statement}
+use Rattle.row.proofs.search.search.Tie as tie
 
 abbrev Inv-loop : tie.InvT-loop
 Inv-loop s index count key buffer₀ low₀ high₀ buffer low high =

@@ -3,10 +3,10 @@ use Prim.Native.Nat.{_+_, _-_}
 use native.Mathlib.Omega.{arith}
 use lib.ListN.{length}
 use Rattle.row.proofs.Memories.{fresh-zeros}
-use Rattle.choice.proofs.Leaving.{SiftedSoFar, begins, ends-first, ends-second, never-too-many, keys-within, values-within, word-fits, turn-first, turn-second, turn-both}
+use Rattle.lacking.proofs.Leaving.{SiftedSoFar, begins, ends-first, ends-second, never-too-many, keys-within, values-within, word-fits, turn-first, turn-second, turn-both}
 use borrow.Author.Needs.{needs}
-use Rattle.choice.proofs.sift.leave_held.Statement.{statement}
-use Rattle.choice.proofs.sift.leave_held.Tie as tie
+use Rattle.lacking.proofs.sift.leave_held.Statement.{statement}
+use Rattle.lacking.proofs.sift.leave_held.Tie as tie
 
 abbrev Inv-loop : tie.InvT-loop
 Inv-loop s u first n second m row₀ keys₀ notes₀ others₀ marks₀ a₀ b₀ k₀ row keys notes others marks a b k =

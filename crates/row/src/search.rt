@@ -1,10 +1,10 @@
 // The place of a key's value, by halves of the index.
+use crate::fetch::fetch_from;
 use key::order::Order;
 use key::order::compare;
-use row::fetch::fetch_from;
 ghost use Prim.Native.Nat.{_≤_};
 ghost use lib.ListN.{length};
-ghost use Rattle.register.specs.Search.{SearchSays};
+ghost use Rattle.row.specs.Search.{SearchSays};
 
 // The position of the key's record and the place of its value.
 pub enum Searched {

@@ -10,10 +10,10 @@ use Rattle.tree.specs.Record.{Record, records}
 use Rattle.tree.specs.Table.{SpeltTree}
 use Rattle.tree.specs.Judge.{accepted, judge}
 use Rattle.tree.specs.Place.{places}
 use Rattle.row.specs.Row.{nothing}
 use Rattle.promises.specs.Outcome.{placeOf}
-use Rattle.register.specs.declared.search.Searched.{Searched}
-use Rattle.register.specs.declared.search.Searched.the-variants.{At, Absent}
+use Rattle.row.specs.declared.search.Searched.{Searched}
+use Rattle.row.specs.declared.search.Searched.the-variants.{At, Absent}
 
 abbrev pub placeFound : Searched → Option ℕ
 placeFound (At position place) = some place
