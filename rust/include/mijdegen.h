@@ -8,6 +8,10 @@
  * An input is a pointer and a length in bytes. It is read and never changed. An output is a
  * pointer and a length too, or a pointer to 32 bytes. Where a length is 0, the pointer is neither
  * read nor written. An output must share no byte with an input or with another output.
+ *
+ * Each call that takes a register judges it whole: its time grows with the register's length, and
+ * a call for each of n records judges n times. A call uses up to 512 KiB of stack and no other
+ * memory. Threads may call at the same time.
  */
 
 #ifndef MIJDEGEN_H
@@ -118,6 +122,9 @@ uint64_t mijdegen_lookup(const uint8_t *reg, size_t reg_len, const uint8_t *key,
  * the end, whatever out_len is, and out and value are zeros. Otherwise the answer is the number
  * of mijdegen_check for a refused register; then MIJDEGEN_NO_ROOM where the key is longer than
  * out_len. On refusal out and value are zeros too.
+ *
+ * Each call judges the whole register again: to go through n records takes n times as long as one
+ * mijdegen_check.
  */
 uint64_t mijdegen_list(const uint8_t *reg, size_t reg_len, uint64_t n, uint8_t *out,
                        size_t out_len, uint8_t value[MIJDEGEN_DIGEST_LENGTH]);
@@ -172,8 +179,8 @@ uint64_t mijdegen_merge(const uint8_t *first, size_t first_len, const uint8_t *s
  * Writes the register of what the second register holds and the first does not: all records in
  * opened pages of the second that the first does not hold, key and value. A page of the second is
  * known when its digest is that of some page of the first, wherever it stands there; it is opened
- * when neither it nor a page above it is known. The result joined into the first by mijdegen_merge
- * gives what the whole second register would give.
+ * when neither it nor a page above it is known. Where no two unequal pages of the two share a
+ * digest, these are exactly the records of the second, key and value, that the first lacks.
  *
  * The value of the answer is the length of the table plus 2^24 times the number of opened pages.
  * Take it apart with mijdegen_difference_length and mijdegen_difference_opened.

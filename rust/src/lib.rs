@@ -2,6 +2,15 @@
 //!
 //! Each function takes byte slices and gives its result, or a [`Refusal`] that says why the
 //! library gives none. The crate allocates nothing and needs no standard library.
+//!
+//! # Costs
+//!
+//! Each call that takes a register judges it whole, so its time grows with the register's length:
+//! each page and each key is hashed once. Going through a register of n records by [`list`] costs
+//! n such judgements, and n calls of [`lookup`] or [`put`] the same. A writing call hashes the
+//! pages that it writes as well.
+//!
+//! A call uses up to 512 KiB of stack and nothing else; threads may call at the same time.
 
 #![no_std]
 #![warn(missing_docs)]
@@ -165,6 +174,9 @@ pub struct Listed {
 ///
 /// The key is written to the output, with zeros after it. Past the end and on refusal the output
 /// is zero.
+///
+/// Each call judges the whole register again: to go through n records takes n times as long as one
+/// [`check`].
 ///
 /// # Errors
 ///
@@ -362,8 +374,8 @@ pub struct Difference {
 /// stands there. It is opened when neither it nor a page above it is known. Equal registers have
 /// no opened page, and their difference is the empty register.
 ///
-/// Joined into the first by [`merge`], the result gives what the whole second register would give.
-/// The output is written as by [`put`].
+/// Where no two unequal pages of the two registers share a digest, the result holds exactly those
+/// records of the second, key and value, that the first lacks. The output is written as by [`put`].
 ///
 /// # Errors
 ///

@@ -1,5 +1,10 @@
 //! The C header is written by hand, so its functions are compared with those that the crate
-//! declares: their names, and the names and types of their parameters.
+//! declares: their names, and the names and types of their parameters. Both have the functions of
+//! the library, and the crate has a safe function for each.
+
+mod common;
+
+use common::repository::{library_functions, read};
 
 /// A function's name and its parameters, as Rust writes them.
 type Function = (String, Vec<String>);
@@ -36,24 +41,24 @@ fn in_rust(parameter: &str) -> String {
 
 #[test]
 fn the_header_has_the_same_functions() {
-    let header = include_str!("../include/mijdegen.h");
-    let declared = include_str!("../src/sys.rs");
-    let found = functions(header, "\nuint64_t mijdegen_", ");", in_rust);
-    let expected = functions(declared, "    fn mijdegen_", ") -> u64;", str::to_string);
+    let header = read("rust/include/mijdegen.h");
+    let declared = read("rust/src/sys.rs");
+    let found = functions(&header, "\nuint64_t mijdegen_", ");", in_rust);
+    let expected = functions(&declared, "    fn mijdegen_", ") -> u64;", str::to_string);
     assert_eq!(found, expected);
 
-    let names: Vec<&str> = found.iter().map(|(name, _)| name.as_str()).collect();
-    let calls = [
-        "digest",
-        "layer",
-        "check",
-        "lookup",
-        "list",
-        "put",
-        "join",
-        "remove",
-        "merge",
-        "difference",
-    ];
-    assert_eq!(names, calls);
+    let names: Vec<String> = found.into_iter().map(|(name, _)| name).collect();
+    assert_eq!(names, library_functions());
+}
+
+#[test]
+fn each_function_has_a_safe_one() {
+    let safe = read("rust/src/lib.rs");
+    for name in library_functions() {
+        let begins = |end: char| safe.contains(&format!("\npub fn {name}{end}"));
+        assert!(
+            begins('(') || begins('<'),
+            "no `pub fn {name}` in rust/src/lib.rs"
+        );
+    }
 }

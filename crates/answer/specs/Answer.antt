@@ -1,5 +1,9 @@
--- The thirteen numbers, and an answer as one number.
-use Prim.Native.Nat.{ℕ, _+_, _*_, _^_, _<_}
+-- The thirteen numbers, what an answer says, and an answer as one number.
+use Prim.Native.Nat.{ℕ, _+_, _*_, _/_, _%_, _^_}
+use mathlib.Core.Path.{_≡_}
+use mathlib.Core.Bool.{cond}
+use mathlib.Core.List.{List, [], _∷_}
+use lib.Dec.{eqb}
 use Rattle.answer.specs.declared.Refusal.{Refusal}
 use Rattle.answer.specs.declared.Refusal.the-variants.{TooLong, EndsEarly, Departs, BytesFollow, TooManyRecords, WrongPrefix, UnlawfulKey, KeysNotRising, WrongTree, WrongDigest, ValueLength, KeyAbsent, NoRoom}
 use Rattle.answer.specs.declared.Answer.{Answer}
@@ -35,16 +39,40 @@ numberOf ValueLength = 11
 numberOf KeyAbsent = 12
 numberOf NoRoom = 13
 
+-- What an answer says: a refusal its number alone, a call that is done its values.
+pub data Said : Type 0 where
+  refusedWith : ℕ → Said
+  doneWith : List ℕ → Said
+
+abbrev pub said : Answer → Said
+said (Done v) = doneWith (v ∷ [])
+said (Refused r) = refusedWith (numberOf r)
+
+-- The difference has two values: the table's length and the number of opened pages.
+abbrev pub saidOfDifference : Differed → Said
+saidOfDifference (Found n count) = doneWith (n ∷ count ∷ [])
+saidOfDifference (DifferenceRefused r) = refusedWith (numberOf r)
+
 -- An answer as one number: the refusal's number alone, or 256 times the value.
 abbrev pub encoded : Answer → ℕ
 encoded (Done v) = 256 * v
 encoded (Refused r) = numberOf r
 
--- The same of a difference: the value is the table's length plus 2^24 times the number of opened pages. A table's length is below 2^24.
-abbrev pub LengthFits : Differed → Type 0
-LengthFits (Found n count) = n < 2 ^ 24
-LengthFits (DifferenceRefused r) = Unit {0}
-
+-- Of two values the second is multiplied by 2^24; the first, a table's length, is below that.
 abbrev pub encodedDifference : Differed → ℕ
 encodedDifference (Found n count) = 256 * (n + 2 ^ 24 * count)
 encodedDifference (DifferenceRefused r) = numberOf r
+
+-- The one number taken apart: its remainder by 256 is a refusal's number, or 0; then the quotient is the value.
+unfoldable pub takenApart : ℕ → Said
+takenApart a = cond (eqb (a % 256) 0) (doneWith (a / 256 ∷ [])) (refusedWith (a % 256))
+
+-- The same for two values: the remainder of the value by 2^24 is the first, the quotient the second.
+unfoldable pub takenApartInTwo : ℕ → Said
+takenApartInTwo a = cond (eqb (a % 256) 0) (doneWith (a / 256 % 2 ^ 24 ∷ a / 256 / 2 ^ 24 ∷ [])) (refusedWith (a % 256))
+
+-- An answer as one number comes apart into what the answer says; that of a refusal has the value 0.
+abbrev pub ComesApart : Type 0
+ComesApart =
+    ((answer : Answer) → takenApart (encoded answer) ≡ said answer)
+    × ((r : Refusal) → encoded (Refused r) / 256 ≡ 0)

@@ -1,6 +1,7 @@
-// The answers of the public calls and the thirteen refusals.
+// The answers of the public calls and the thirteen refusals. The functions are for the crates above and no public calls.
 ghost use mathlib.Core.Path.{_≡_};
-ghost use Rattle.answer.specs.Answer.{numberOf, encoded, LengthFits, encodedDifference};
+ghost use Rattle.answer.specs.Answer.{numberOf, encoded, encodedDifference};
+ghost use Rattle.answer.specs.Inner.{LengthFits};
 
 // Why a call refuses, in the order in which the reasons are judged.
 pub enum Refusal {

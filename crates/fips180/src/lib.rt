@@ -56,7 +56,7 @@ pub fn small_sigma_1(x: u32) -> u32
 }
 
 // Four bytes as a big-endian word.
-pub fn pack(a: u8, b: u8, c: u8, d: u8) -> u32
+fn pack(a: u8, b: u8, c: u8, d: u8) -> u32
     ensures { λ r. ⌜ r ≡ a * 2 ^ 24 + b * 2 ^ 16 + c * 2 ^ 8 + d ⌝ }
 {
     (a as u32) * 0x100_0000 + (b as u32) * 0x1_0000 + (c as u32) * 0x100 + d as u32

@@ -33,7 +33,7 @@ pub fn extend(buffer: &mut [u8], size: usize, s: &[u8], shares: usize, at: usize
 }
 
 // Whether a prefix length is the count of bytes shared with the key held.
-pub fn prefix_fits(buffer: &[u8], size: usize, s: &[u8], shares: usize, at: usize, n: usize) -> bool
+fn prefix_fits(buffer: &[u8], size: usize, s: &[u8], shares: usize, at: usize, n: usize) -> bool
     requires { ⌜ at + n ≤ length (now s) ⌝ }
     ensures { λ r. ⌜ PrefixIs (now (buffer .entry)) size (now (s .entry)) shares at n r ⌝ }
 {
@@ -56,7 +56,7 @@ pub fn prefix_fits(buffer: &[u8], size: usize, s: &[u8], shares: usize, at: usiz
 }
 
 // Whether the prefix lengths of the n entries from first on are right. The buffer has room for every byte that a prefix can reach.
-pub fn prefixes_fit(s: &[u8], first: usize, n: usize, buffer: &mut [u8]) -> bool
+pub(crate) fn prefixes_fit(s: &[u8], first: usize, n: usize, buffer: &mut [u8]) -> bool
     requires { ⌜ (65536 ≤ length (now buffer)) × (first ≤ length (now s)) ⌝ }
     ensures { λ r. ⌜ ((es : List RawEntry) (past : ℕ) → times n entry (drop first (now (s .entry))) ≡ read es (drop past (now (s .entry))) → r ≡ prefixesOf [] es) ⌝ }
 {

@@ -1,7 +1,7 @@
 // The index of a register: one walk over its pages that makes the tests of numbers 2, 3 and 6 to 10 and notes where each record
 // stands. The functions are for the crates above and no public calls.
 pub mod buffer; // keys in buffers
-pub mod walk; // the walk over the pages
+mod walk; // the walk over the pages
 
 use crate::walk::State;
 use crate::walk::Walked;

@@ -1,9 +1,12 @@
 -- The text for a verdict.
-use Prim.Native.Nat.{ℕ, _^_, _≤_, _<_}
+use Prim.Native.Nat.{ℕ, _+_, _^_, _≤_, _<_}
 use mathlib.Core.Path.{_≡_, sym, ap, subst, _∙_}
 use mathlib.Core.List.{List, [], _∷_, _++_}
-use lib.ListN.{length}
-use borrow.Author.Tests.{le-leb, lt-leb}
+use native.Mathlib.Omega.{arith}
+use lib.ListN.{length, take}
+use lib.Seq.{length-take-le}
+use borrow.Author.Tests.{le-leb}
+use Rattle.io.specs.Counts.{Counts}
 use Rattle.fips180.specs.Bytes.{Bytes}
 use Rattle.answer.specs.Answer.{numberOf}
 use Rattle.answer.specs.declared.Refusal.{Refusal}
@@ -12,8 +15,9 @@ use Rattle.tree.specs.Judge.{refused, judge}
 use Rattle.index.specs.Walk.{AcceptedIndex}
 use Rattle.row.specs.Row.{Row, recordsOf}
 use Rattle.row.proofs.Rows.{accepted-short, accepted-row, accepted-records}
-use Rattle.promises.specs.Listing.{decimal, space, lineFeed, recordLines, listingOf, refusalLine, listingVerdict, listing}
-use Rattle.listing.specs.Text.{Wrote, Adds}
+use Rattle.promises.specs.Listing.{decimal, space, lineFeed, recordLines, listingOf, refusalLine, listingVerdict, longestInput, listing, longestListing}
+use Rattle.promises.proofs.ListingLaws.{too-long, first-bytes-decide, listing-fits}
+use Rattle.listing.specs.Text.{Wrote, Adds, ListsInput}
 use Rattle.listing.specs.declared.text.Written.{Written}
 use Rattle.listing.specs.declared.text.Written.the-variants.{Text, NoRoom}
 use Rattle.listing.proofs.Adding.{adds-then, adds-short, adds-same, adds-first, then-lines}
@@ -30,8 +34,8 @@ recordsWord = 0x72 ∷ 0x65 ∷ 0x63 ∷ 0x6F ∷ 0x72 ∷ 0x64 ∷ 0x73 ∷ spa
 
 -- ---- refused
 too-long-text : (s : List ℕ) → 65536 < length s → listing s ≡ firstLine refusedWord 1
-unfolding listing refusalLine
-too-long-text s h = rw (lt-leb (length s) 65536 h)
+unfolding refusalLine
+too-long-text s h = too-long s h
 
 refused-text : (s : List ℕ) {r : Refusal} → length s ≤ 65536 → judge s ≡ refused r → listing s ≡ firstLine refusedWord (numberOf r)
 unfolding listing listingVerdict refusalLine
@@ -67,6 +71,19 @@ module _ {s index : List ℕ} {count : ℕ} (short : length s ≤ 65536) (a : Ac
   pub wrote-short : q ≡ NoRoom → Wrote m (listing s) NoRoom
   wrote-short h = adds-first (adds-short f h (recordLines (records (a .tree)))) accepted-text
 
--- ---- a text is within the output
-pub wrote-within : (out text : List ℕ) (r : Written) (n : ℕ) → Wrote out text r → r ≡ Text n → n ≤ length out
-wrote-within out text r n w e = subst (λ (q : Written). Wrote out text q) e w .1
+-- ---- the whole text, with room for it
+module _ (s out : List ℕ) {r : Written} (w : Wrote out (listing s) r) where
+  pub wrote-whole : {n : ℕ} → r ≡ Text n → Counts n out × (take n out ≡ listing s)
+  wrote-whole {n} e =
+      let t = subst (λ (q : Written). Wrote out (listing s) q) e w in
+      ((t .1, sym (length-take-le n out (t .1))), t .2)
+
+  pub never-short : Bytes s → length out ≡ longestListing → r ≡ NoRoom → ⊥
+  never-short b h e =
+      let short = subst (λ (q : Written). Wrote out (listing s) q) e w in
+      omega (arith, listing-fits (record { list = s; small = b }))
+
+-- ---- what was read decides
+pub lists-input : (buffer out : List ℕ) (n m : ℕ) → length buffer ≡ longestInput + 1 → take m out ≡ listing (take n buffer) → ListsInput buffer n (take m out)
+lists-input buffer out n m size e input read =
+    e ∙ ap listing (read ∙ ap (λ (k : ℕ). take k input) size) ∙ first-bytes-decide input

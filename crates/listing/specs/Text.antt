@@ -6,7 +6,7 @@ use lib.ListN.{length, take, drop}
 use Rattle.tree.specs.Record.{Record}
 use Rattle.row.specs.Row.{recordOf}
 use Rattle.row.specs.Memory.{Remembers}
-use Rattle.promises.specs.Listing.{hexadecimal, space, lineFeed}
+use Rattle.promises.specs.Listing.{hexadecimal, space, lineFeed, listing}
 use Rattle.listing.specs.declared.text.Written.{Written}
 use Rattle.listing.specs.declared.text.Written.the-variants.{Text, NoRoom}
 
@@ -33,3 +33,7 @@ lineOf r = r .key ++ lineEnd (r .val)
 pub record LineSays (s : List ℕ) (word : ℕ) (entry : List ℕ) (at : ℕ) (exit keys notes : List ℕ) (r : Written) : Type 0 where
   pub line : Adds entry at (lineOf (recordOf s s word)) exit r
   pub remembers : Remembers s s keys notes
+
+-- The text is the listing of every input of which this was read: its first bytes, as many as the buffer holds.
+abbrev pub ListsInput : List ℕ → ℕ → List ℕ → Type 0
+ListsInput buffer n text = (input : List ℕ) → take n buffer ≡ take (length buffer) input → text ≡ listing input

@@ -5,7 +5,8 @@ use row::recall::recall;
 ghost use mathlib.Core.Path.{_≡_};
 ghost use mathlib.Core.List.{[], _∷_, _++_};
 ghost use Prim.Native.Nat.{_^_, _<_};
-ghost use lib.ListN.{length};
+ghost use lib.ListN.{length, take};
+ghost use Rattle.io.specs.Counts.{Counts};
 ghost use Rattle.row.specs.Row.{Stands, Row, recordsOf};
 ghost use Rattle.row.specs.Memory.{Remembers};
 ghost use Rattle.promises.specs.Listing.{decimal, digits, hexDigit, lineFeed, recordLines, listing};
@@ -151,8 +152,8 @@ fn add_lines(out: &mut [u8], at: usize, s: &[u8], index: &[u64], count: usize) -
     Written::Text(next)
 }
 
-// The listing of what was read.
-pub fn write_listing(s: &[u8], out: &mut [u8]) -> Written
+// The listing of what was read, where there is room for it.
+fn write_listing(s: &[u8], out: &mut [u8]) -> Written
     ensures { λ r. ⌜ Wrote (now (out .exit)) (listing (now (s .entry))) r ⌝ }
 {
     if 65536 < s.len() {
@@ -169,5 +170,15 @@ pub fn write_listing(s: &[u8], out: &mut [u8]) -> Written
             b"refused ",
             answer::number(refusal) as usize,
         ),
+    }
+}
+
+// The listing of what was read: so many bytes at the front of the output, which has room for every listing.
+pub fn list_input(s: &[u8], out: &mut [u8; 524288]) -> usize
+    ensures { λ r. ⌜ Counts r (now (out .exit)) × (take r (now (out .exit)) ≡ listing (now (s .entry))) ⌝ }
+{
+    match write_listing(s, out) {
+        Written::Text(length) => length,
+        Written::NoRoom => 0,
     }
 }

@@ -20,7 +20,7 @@ use Rattle.tree.specs.Tree.{page}
 use Rattle.tree.specs.Table.{SpeltTree, rawPage, bytesOfPage}
 use Rattle.tree.specs.Judge.{equal, accepted, judge}
 use Rattle.index.proofs.Standing.{same-end, read-not-stopped}
-use Rattle.promises.specs.Difference.{known}
+use Rattle.promises.specs.Pages.{known}
 use Rattle.opened.specs.Known.{linksOfPages, rawPages, isAmong, PagesAt, aPage, InPages, Linked, digestsIn, InTable, Knows, pagesIn}
 use Rattle.opened.specs.declared.known.First.{First}
 use Rattle.opened.proofs.Links.{among-append, accepted-pages, accepted-digests, known-tree}

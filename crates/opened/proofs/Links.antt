@@ -22,7 +22,7 @@ use Rattle.tree.specs.Judge.{equal, digestsRight, digestsRightUnder, digestsRig
 use Rattle.tree.proofs.Tests.{equal-true, equal-cases}
 use Rattle.tree.proofs.Tables.{AllUnder, AllFrom, Good}
 use Rattle.tree.proofs.Accept.{accepted-table}
-use Rattle.promises.specs.Difference.{pagesOf, pagesUnder, pagesFrom, known}
+use Rattle.promises.specs.Pages.{pagesOf, pagesUnder, pagesFrom, known}
 use Rattle.opened.specs.Known.{linkOr, linksOfEntries, linksOfPage, linksOfPages, rawPages, rawPagesUnder, rawPagesFrom, isAmong, PagesAt, noPage, aPage}
 
 -- ---- the table is the bytes of the pages

@@ -5,10 +5,12 @@ use mathlib.Core.Bool.{Bool, true, false, cond, not}
 use mathlib.Core.List.{List, [], _∷_, _++_}
 use native.Mathlib.Omega.{arith}
 use lib.ListN.{length, drop, length-append}
+use borrow.Table.Steps.{cases}
 use Rattle.tree.specs.Tree.{page, Gap, empty, under, Entries, end, entry, items, itemsUnder, itemsFrom}
 use Rattle.tree.specs.Record.{Spelt, recordOf, keyed, keyedUnder, keyedFrom, records}
 use Rattle.tree.specs.Table.{SpeltTree, bytesOfPage}
-use Rattle.promises.specs.Difference.{known, opened, openedUnder, openedFrom, countOpened, countOpenedUnder, countOpenedFrom}
+use Rattle.promises.specs.Pages.{known, openedPages}
+use Rattle.promises.proofs.OpenedLaws.{descent, descentUnder, descentFrom, opened-descent, openedRecords, openedUnder, openedFrom}
 use Rattle.opened.specs.Passing.{flags, flagsUnder, flagsFrom, openPages, openPagesUnder, openPagesFrom, pick}
 use Rattle.opened.proofs.Picks.{pick-append, pick-both}
 
@@ -66,9 +68,9 @@ module _ (first : List (List ℕ)) where
   by-known false x y f e h = h
 
   mutual
-    unfolding opened flags items keyed pick
+    unfolding openedRecords flags items keyed pick
 
-    pub opened-picks : (t : SpeltTree) → opened first t ≡ pick (flags first (not (known first (bytesOfPage t))) t) (records t)
+    pub opened-picks : (t : SpeltTree) → openedRecords first t ≡ pick (flags first (not (known first (bytesOfPage t))) t) (records t)
     opened-picks (page g es) =
         by-known (known first (bytesOfPage (page g es))) [] (openedUnder first g ++ openedFrom first [] es)
         (λ (b : Bool). pick (flags first b (page g es)) (records (page g es))) (closed-flags (page g es) (records (page g es)))
@@ -84,17 +86,23 @@ module _ (first : List (List ℕ)) where
         rw (pick-both (flagsUnder first true g) (flagsFrom first true es) (itemsUnder (keyedUnder g)) (itemsFrom (keyedFrom (recordOf before e .key) es)) (flags-under-length true g), opened-under-picks g, opened-from-picks (recordOf before e .key) es)
 
   mutual
-    unfolding countOpened openPages
+    unfolding descent openPages
 
-    pub opened-count : (t : SpeltTree) → countOpened first t ≡ openPages first (not (known first (bytesOfPage t))) t
-    opened-count (page g es) =
-        by-known (known first (bytesOfPage (page g es))) 0 (1 + (countOpenedUnder first g + countOpenedFrom first es))
-        (λ (b : Bool). openPages first b (page g es)) (closed-pages (page g es)) (rw (opened-under-count g, opened-from-count es))
+    descent-count : (t : SpeltTree) → length (descent first t) ≡ openPages first (not (known first (bytesOfPage t))) t
+    descent-count (page g es) =
+        let more = length-append (descentUnder first g) (descentFrom first es) in
+        let here : length (page g es ∷ (descentUnder first g ++ descentFrom first es)) ≡ openPages first true (page g es) =
+        omega (arith, more, descent-under-count g, descent-from-count es) in
+        cases (known first (bytesOfPage (page g es))) (λ e. rw e (sym (closed-pages (page g es)))) (λ e. rw e here)
 
-    opened-under-count : (g : Gap Spelt (List ℕ)) → countOpenedUnder first g ≡ openPagesUnder first true g
-    opened-under-count empty = refl
-    opened-under-count (under d p) = opened-count p
+    descent-under-count : (g : Gap Spelt (List ℕ)) → length (descentUnder first g) ≡ openPagesUnder first true g
+    descent-under-count empty = refl
+    descent-under-count (under d p) = descent-count p
 
-    opened-from-count : (es : Entries Spelt (List ℕ)) → countOpenedFrom first es ≡ openPagesFrom first true es
-    opened-from-count end = refl
-    opened-from-count (entry e g es) = rw (opened-under-count g, opened-from-count es)
+    descent-from-count : (es : Entries Spelt (List ℕ)) → length (descentFrom first es) ≡ openPagesFrom first true es
+    descent-from-count end = refl
+    descent-from-count (entry e g es) =
+        omega (arith, length-append (descentUnder first g) (descentFrom first es), descent-under-count g, descent-from-count es)
+
+  pub opened-count : (t : SpeltTree) → length (openedPages first t) ≡ openPages first (not (known first (bytesOfPage t))) t
+  opened-count t = rw (opened-descent first t) (descent-count t)

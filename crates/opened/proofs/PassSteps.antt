@@ -27,7 +27,7 @@ use Rattle.tree.specs.Record.{Spelt}
 use Rattle.tree.specs.Table.{SpeltTree, bytesOfPage, readUnder, readFrom, readTree}
 use Rattle.tree.specs.Judge.{equal, digestsRight, digestsRightUnder, digestsRightFrom}
 use Rattle.tree.proofs.Tests.{equal-true}
-use Rattle.promises.specs.Difference.{known}
+use Rattle.promises.specs.Pages.{known}
 use Rattle.opened.specs.Passing.{flags, flagsUnder, flagsFrom, openPages, openPagesUnder, openPagesFrom, Standing, Gone, OnePassed, Entered, Says, PageSays, EntriesSay, PagePassed, EntriesPassed}
 use Rattle.opened.specs.declared.pass.Passed.{Passed}
 use Rattle.opened.proofs.Stages.{gone-none, gone-seq, one-standing, enter-gone}

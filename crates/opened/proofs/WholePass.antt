@@ -21,7 +21,7 @@ use Rattle.tree.proofs.Accept.{accepted-table}
 use Rattle.index.specs.Slot.{Slot, slots, keyOf, lawfulSlots}
 use Rattle.index.specs.Walk.{blank, Indexes, AcceptedIndex}
 use Rattle.index.proofs.SlotLaws.{slots-length, slots-lawful}
-use Rattle.promises.specs.Difference.{known}
+use Rattle.promises.specs.Pages.{known}
 use Rattle.opened.specs.Passing.{openPages, Room, Says, PagePassed, OpenedStaged}
 use Rattle.opened.specs.declared.pass.Passed.{Passed}
 use Rattle.opened.proofs.OpenFlags.{flags-length, opened-count}

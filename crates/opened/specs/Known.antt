@@ -13,7 +13,7 @@ use Rattle.tree.specs.Tree.{page, Gap, empty, under, Entries, end, entry}
 use Rattle.tree.specs.Record.{Spelt}
 use Rattle.tree.specs.Table.{SpeltTree, rawPage, bytesOfPage}
 use Rattle.tree.specs.Judge.{equal, digestsRight, Verdict, refused, accepted, judge}
-use Rattle.promises.specs.Difference.{pagesOf}
+use Rattle.promises.specs.Pages.{pagesOf}
 use Rattle.opened.specs.declared.known.First.{First}
 
 -- The digests in the page links of a page: the left link's, then those of the gaps after its entries.

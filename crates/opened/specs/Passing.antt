@@ -10,7 +10,7 @@ use Rattle.tree.specs.Tree.{page, Gap, empty, under, Entries, end, entry}
 use Rattle.tree.specs.Record.{Spelt}
 use Rattle.tree.specs.Table.{SpeltTree, bytesOfPage, readFrom, readTree}
 use Rattle.tree.specs.Judge.{digestsRight, digestsRightFrom, accepted, judge}
-use Rattle.promises.specs.Difference.{known, countOpened}
+use Rattle.promises.specs.Pages.{known, openedPages}
 use Rattle.opened.specs.declared.pass.Passed.{Passed}
 use Rattle.opened.specs.declared.pass.Opening.{Opening}
 
@@ -125,6 +125,6 @@ pub record IsAccepted (s : List ℕ) : Type 0 where
 
 -- The first `count` words are those of the records of v, in key order. The row begins with those of the records in opened pages, 2^60 added.
 pub record OpenedStaged (first : List (List ℕ)) (v : SpeltTree) (index : List ℕ) (count : ℕ) (r : Opening) (row′ : List ℕ) : Type 0 where
-  pub opened : r .opened ≡ countOpened first v
+  pub opened : r .opened ≡ length (openedPages first v)
   pub fits : r .staged ≤ count
   pub staged : take (r .staged) row′ ≡ pick (flags first (not (known first (bytesOfPage v))) v) (marked (take count index))

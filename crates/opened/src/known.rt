@@ -13,7 +13,7 @@ ghost use Rattle.fips180.specs.Hash.{sha256, zeros};
 ghost use Rattle.page.specs.Place.{linkAt};
 ghost use Rattle.tree.specs.Table.{SpeltTree, bytesOfPage};
 ghost use Rattle.tree.specs.Judge.{equal, accepted, judge};
-ghost use Rattle.promises.specs.Difference.{known};
+ghost use Rattle.promises.specs.Pages.{known};
 ghost use Rattle.opened.specs.Known.{linkOr, isAmong, firstBits, LinkFits, Linked, Tabled, AddedLink, AddedLinks, InEntries, InPages, InTable, Knows, pagesIn};
 
 // The root's digest, how many links are in the table, and the place of the first page whose links are not.

@@ -16,16 +16,16 @@ ghost use Rattle.fips180.specs.Hash.{sha256};
 ghost use Rattle.tree.specs.Table.{SpeltTree};
 ghost use Rattle.tree.specs.Judge.{accepted, judge};
 ghost use Rattle.index.specs.Walk.{AcceptedIndex};
-ghost use Rattle.promises.specs.Difference.{known};
+ghost use Rattle.promises.specs.Pages.{known};
 ghost use Rattle.opened.specs.Known.{Knows, pagesIn};
 ghost use Rattle.opened.specs.Passing.{Room, Counted, Standing, OnePassed, Entered, PagePassed, EntriesPassed, IsAccepted, OpenedStaged};
 
 // Where the pass stands: the next page, the records passed, the pages opened, and the records staged.
-pub struct Passed {
-    pub next: usize,
-    pub records: usize,
-    pub opened: usize,
-    pub staged: usize,
+struct Passed {
+    next: usize,
+    records: usize,
+    opened: usize,
+    staged: usize,
 }
 
 // Whether the page that the link at a place leads to is opened, below a page that is opened or not.

@@ -25,7 +25,7 @@ pub enum Stop {
 }
 
 // A place: after what was read, or of a digest.
-pub enum PlaceRead {
+enum PlaceRead {
     Place(usize),
     PlaceStop(Stop),
 }
@@ -37,7 +37,7 @@ pub enum NumberRead {
 }
 
 // The place of the digest of a gap's link, or 0 where the gap is empty; and the place after it.
-pub enum GapRead {
+enum GapRead {
     Gap(usize, usize),
     GapStop(Stop),
 }

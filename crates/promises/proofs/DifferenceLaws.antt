@@ -5,67 +5,70 @@ use mathlib.Core.Path.{_≡_, refl, sym, ap, ap₂, _∙_}
 use mathlib.Core.Bool.{Bool, true, false, _||_, or-true, false≢true}
 use mathlib.Core.Logic.{inl, inr}
 use mathlib.Core.Option.{Option, none, some}
-use mathlib.Core.List.{List, [], _∷_, _++_, head-eq-of-cons-eq, tail-eq-of-cons-eq, Sublistᴰ, Sublistᴰ·slnil, Sublistᴰ·cons, Sublistᴰ·cons-cons, Sublistᴰ·nil-sublist, Sublistᴰ·append, Sublistᴰ·trans}
+use mathlib.Core.List.{List, [], _∷_, _++_, head-eq-of-cons-eq, tail-eq-of-cons-eq, Sublistᴰ, Sublistᴰ·slnil, Sublistᴰ·cons, Sublistᴰ·cons-cons, Sublistᴰ·trans}
 use native.Mathlib.Omega.{arith}
 use lib.ListN.{length, length-append, length-replicate}
 use borrow.Table.Steps.{cases}
-use Rattle.answer.specs.declared.Refusal.{Refusal}
 use Rattle.fips180.specs.Hash.{sha256}
+use Rattle.key.proofs.Laws.{less-connected}
 use Rattle.page.specs.Page.{RawEntry, RawPage}
 use Rattle.page.proofs.Tools.{and-inv, All, all-split}
 use Rattle.page.proofs.Pages.{GoodPage}
 use Rattle.tree.specs.Tree.{page, Gap, empty, under, Entries, end, entry, items, itemsUnder, itemsFrom}
 use Rattle.tree.specs.Record.{Record, Spelt, recordOf, keyed, keyedUnder, keyedFrom, records}
-use Rattle.tree.specs.Table.{SpeltTree, linkOf, rawEntries, rawPage, bytesOfPage, tableOf, deepest}
-use Rattle.tree.specs.Judge.{due, equal, digestsRight, digestsRightUnder, digestsRightFrom, accepted, fits}
-use Rattle.tree.proofs.Laws.{equal-true, equal-refl, due-none, AllUnder, AllFrom, Good, page-injective, Accepted}
-use Rattle.promises.specs.Map.{find}
-use Rattle.promises.specs.Outcome.{sizes}
-use Rattle.promises.specs.Difference.{pagesOf, pagesUnder, pagesFrom, known, opened, openedUnder, openedFrom, isValueThere, holds, lacking, countOpened, Difference, stopped, found, differenceRecords, settleDifference, differenceVerdicts, differenceOutput}
+use Rattle.tree.specs.Table.{SpeltTree, linkOf, rawEntries, rawPage, bytesOfPage, deepest}
+use Rattle.tree.specs.Judge.{equal, digestsRight, digestsRightUnder, digestsRightFrom}
+use Rattle.tree.proofs.Laws.{equal-true, equal-refl, AllUnder, AllFrom, Good, page-injective, Accepted}
+use Rattle.promises.specs.Map.{find, onlyInSecond}
+use Rattle.promises.specs.Pages.{pagesOf, pagesUnder, pagesFrom, known}
+use Rattle.promises.specs.Difference.{isValueThere, holds, lacking, Difference, stopped, found, differenceRecords, differenceOutput}
 use Rattle.promises.specs.Promises.{Among, NoSharedDigest}
-use Rattle.promises.proofs.MapLaws.{Above, Sorted, rising-sorted, find-here, find-later, Proper, fits-proper}
-use Rattle.promises.proofs.Steps.{Sized, sized, sized-fits}
+use Rattle.promises.proofs.MapLaws.{Above, above-before, Sorted, rising-sorted, find-nil, find-before, find-here, find-later, find-above, Proper}
+use Rattle.promises.proofs.Parts.{all-part, proper-part}
+use Rattle.promises.proofs.OpenedLaws.{openedRecords, openedUnder, openedFrom, opened-part, opened-in-order}
 
--- ---- a part of a list, in its order, keeps what the list has
-all-part : (P : Record → Type 0) {a b : List Record} → Sublistᴰ a b → All P b → All P a
-all-part P Sublistᴰ·slnil h = tt
-all-part P (Sublistᴰ·cons s) h = all-part P s (h .1)
-all-part P (Sublistᴰ·cons-cons e s) h = (rw e (h .0), all-part P s (h .1))
-
-sorted-part : {a b : List Record} → Sublistᴰ a b → Sorted b → Sorted a
-sorted-part Sublistᴰ·slnil h = tt
-sorted-part (Sublistᴰ·cons s) h = sorted-part s (h .1)
-sorted-part (Sublistᴰ·cons-cons e s) h = (all-part _ s (rw e (h .0)), sorted-part s (h .1))
-
-pub proper-part : {a b : List Record} → Sublistᴰ a b → Proper b → Proper a
-proper-part s p =
-    record { order = sorted-part s (p .order); keys = all-part _ s (p .keys); values = all-part _ s (p .values) }
-
--- ---- what is opened, and what of it is lacking, is such a part
-module _ (first : List (List ℕ)) where
-  mutual
-    unfolding opened keyed items
-
-    pub opened-part : (t : SpeltTree) → Sublistᴰ (opened first t) (records t)
-    opened-part (page g es) =
-        cases (known first (bytesOfPage (page g es)))
-        (λ e. rw e (Sublistᴰ·nil-sublist _))
-        (λ e. rw e (Sublistᴰ·append (opened-part-under g) (opened-part-from [] es)))
-
-    opened-part-under : (g : Gap Spelt (List ℕ)) → Sublistᴰ (openedUnder first g) (itemsUnder (keyedUnder g))
-    opened-part-under empty = Sublistᴰ·slnil
-    opened-part-under (under digest p) = opened-part p
-
-    opened-part-from : (before : List ℕ) (es : Entries Spelt (List ℕ)) → Sublistᴰ (openedFrom first before es) (itemsFrom (keyedFrom before es))
-    opened-part-from before end = Sublistᴰ·slnil
-    opened-part-from before (entry e g es) =
-        Sublistᴰ·cons-cons refl (Sublistᴰ·append (opened-part-under g) (opened-part-from (recordOf before e .key) es))
-
+-- ---- what is lacking is a part of the records
 pub lacking-part : (m rs : List Record) → Sublistᴰ (lacking m rs) rs
 unfolding lacking
 lacking-part m [] = Sublistᴰ·slnil
 lacking-part m (r ∷ rs) =
     cases (holds m r) (λ e. rw e (Sublistᴰ·cons (lacking-part m rs))) (λ e. rw e (Sublistᴰ·cons-cons refl (lacking-part m rs)))
+
+-- ---- what a key finds in it
+-- the value of a record that is held, and of one that is not
+held-value : (m : List Record) (r : Record) (o : Option (List ℕ)) → find (r .key) m ≡ o → holds m r ≡ true → onlyInSecond o (some (r .val)) ≡ none
+unfolding holds isValueThere onlyInSecond
+held-value m r none e h = absurd (false≢true (rw e at h))
+held-value m r (some w) e h = rw (rw e at h)
+
+lacked-value : (m : List Record) (r : Record) (o : Option (List ℕ)) → find (r .key) m ≡ o → holds m r ≡ false → onlyInSecond o (some (r .val)) ≡ some (r .val)
+unfolding holds isValueThere onlyInSecond
+lacked-value m r none e h = refl
+lacked-value m r (some w) e h = rw (rw e at h)
+
+only-none : (o : Option (List ℕ)) → onlyInSecond o none ≡ none
+unfolding onlyInSecond
+only-none none = refl
+only-none (some v) = refl
+
+pub find-lacking : (k : List ℕ) (m rs : List Record) → Sorted rs → find k (lacking m rs) ≡ onlyInSecond (find k m) (find k rs)
+unfolding lacking
+find-lacking k m [] s = rw find-nil (sym (only-none (find k m)))
+find-lacking k m (r ∷ rs) s =
+    let later : Above (r .key) (lacking m rs) = all-part _ (lacking-part m rs) (s .0) in
+    less-connected k (r .key)
+    (λ h.
+    let none-later = find-above k (lacking m rs) (above-before k (r .key) (lacking m rs) h later) in
+    rw (find-before k r rs h, only-none (find k m))
+    (cases (holds m r) (λ e. rw e none-later) (λ e. rw e (find-before k r (lacking m rs) h))))
+    (λ e. rw (e, find-here (r .key) r rs refl)
+    (cases (holds m r)
+    (λ h. rw h (find-above (r .key) (lacking m rs) later ∙ sym (held-value m r (find (r .key) m) refl h)))
+    (λ h. rw h (find-here (r .key) r (lacking m rs) refl ∙ sym (lacked-value m r (find (r .key) m) refl h)))))
+    (λ h. rw (find-later k r rs h)
+    (cases (holds m r)
+    (λ e. rw e (find-lacking k m rs (s .1)))
+    (λ e. rw e (find-later k r (lacking m rs) h ∙ find-lacking k m rs (s .1)))))
 
 -- ---- what is lacking, part by part, and of records that are held
 lacking-append : (m rs qs : List Record) → lacking m (rs ++ qs) ≡ lacking m rs ++ lacking m qs
@@ -183,9 +186,9 @@ module _
     -- and the first holds every record that is not in an opened page
     module _ (t : SpeltTree) (b : Linked Fine t) (s : Sorted (records t)) where
       mutual
-        unfolding opened keyed items lacking
+        unfolding openedRecords keyed items lacking
 
-        lacking-opened : (u : SpeltTree) → Linked Fine u → lacking (records t) (opened (pagesOf t) u) ≡ lacking (records t) (records u)
+        lacking-opened : (u : SpeltTree) → Linked Fine u → lacking (records t) (openedRecords (pagesOf t) u) ≡ lacking (records t) (records u)
         lacking-opened (page g es) a =
             cases (known (pagesOf t) (bytesOfPage (page g es)))
             (λ e.
@@ -250,40 +253,26 @@ module _ (all : List (List ℕ)) where
           linked-from es n (a .1) (k .1) (λ p i. w p (among-right (pagesUnder g) (pagesFrom es) p i)),
         )
 
+-- the records of a difference: what the first lacks of those in opened pages
+pub difference-opened : (t u : SpeltTree) → Sorted (records u) → differenceRecords t u ≡ lacking (records t) (openedRecords (pagesOf t) u)
+unfolding differenceRecords
+difference-opened t u s = rw (opened-in-order (pagesOf t) u s)
+
 pub opened-is-enough : (s w : List ℕ) (t u : SpeltTree) → Accepted s t → Accepted w u → NoSharedDigest t u
     → differenceRecords t u ≡ lacking (records t) (records u)
-unfolding differenceRecords
 opened-is-enough s w t u a b unshared =
     let all = pagesOf t ++ pagesOf u in
-    lacking-opened (Fine all)
+    difference-opened t u (rising-sorted (records u) (b .fit .order))
+    ∙ lacking-opened (Fine all)
     (λ p q f g e. page-injective p q (f .0) (g .0) (unshared (bytesOfPage p) (bytesOfPage q) (f .1) (g .1) e))
     t (linked all t deepest (a .good) (a .digests) (among-left (pagesOf t) (pagesOf u))) (rising-sorted (records t) (a .fit .order))
     u (linked all u deepest (b .good) (b .digests) (among-right (pagesOf t) (pagesOf u)))
 
--- ---- a difference that is not refused
-pub record Differenced (t u : SpeltTree) (room : ℕ) (bytes : List ℕ) (count : ℕ) : Type 0 where
-  pub measured : Sized (differenceRecords t u) room
-  pub written : bytes ≡ tableOf (differenceRecords t u)
-  pub counted : count ≡ countOpened (pagesOf t) u
-
-found-settled : (o : Option Refusal) (rs : List Record) (n : ℕ) (bytes : List ℕ) (count : ℕ) → settleDifference o rs n ≡ found bytes count
-    → (o ≡ none) × (bytes ≡ tableOf rs) × (count ≡ n)
-unfolding settleDifference
-found-settled none rs n bytes count h = (refl, cc, cc)
-found-settled (some r) rs n bytes count h = let z : _≡_ {A = ℕ} 0 1 = cc in absurd (omega arith)
-
-pub differenced : (t u : SpeltTree) (room : ℕ) (bytes : List ℕ) (count : ℕ) → differenceVerdicts (accepted t) (accepted u) room ≡ found bytes count
-    → Differenced t u room bytes count
-unfolding differenceVerdicts
-differenced t u room bytes count h =
-    let f = found-settled (due (sizes (differenceRecords t u) room)) (differenceRecords t u) (countOpened (pagesOf t) u) bytes count h in
-    record { measured = sized (differenceRecords t u) room (due-none (sizes (differenceRecords t u) room) (f .0)); written = f .1; counted = f .2 }
-
-pub difference-fits : (t u : SpeltTree) → fits (records u) ≡ true → (room : ℕ) → Sized (differenceRecords t u) room → fits (differenceRecords t u) ≡ true
-unfolding differenceRecords
-difference-fits t u f room s =
-    let part = Sublistᴰ·trans (lacking-part (records t) (opened (pagesOf t) u)) (opened-part (pagesOf t) u) in
-    sized-fits (differenceRecords t u) room (proper-part part (fits-proper (records u) f)) s
+-- ---- the records of a difference keep what the second's have
+pub difference-proper : (t u : SpeltTree) → Proper (records u) → Proper (differenceRecords t u)
+difference-proper t u p =
+    rw (difference-opened t u (p .order))
+    (proper-part (Sublistᴰ·trans (lacking-part (records t) (openedRecords (pagesOf t) u)) (opened-part (pagesOf t) u)) p)
 
 pub difference-output-length : (d : Difference) (room : ℕ) → ((t : List ℕ) (count : ℕ) → d ≡ found t count → length t ≤ room)
     → length (differenceOutput d room) ≡ room

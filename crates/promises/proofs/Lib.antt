@@ -1,6 +1,9 @@
 pub mod MapLaws
 pub mod MergeLaws
+pub mod Parts
 pub mod Steps
-pub mod DifferenceLaws
 pub mod OpenedLaws
+pub mod DifferenceLaws
+pub mod Orders
 pub mod Promises
+pub mod ListingLaws

@@ -20,7 +20,7 @@ use Rattle.promises.specs.Map.{find, isThere, insert, put, greater, join
 abbrev pub Before : List ℕ → List ℕ → Type 0
 Before a b = less a b ≡ true
 
-before-other : (a b : List ℕ) → Before a b → a ≡ b → ⊥
+pub before-other : (a b : List ℕ) → Before a b → a ≡ b → ⊥
 before-other a b h e = less-irreflexive b (rw e at h)
 
 abbrev pub Above : List ℕ → List Record → Type 0
@@ -84,7 +84,7 @@ greater-associates u v w =
     (λ p. cases (less v w) (λ q. rw (p, q)) (λ q. rw (p, q, p, not-less-transitive u v w p q)))
 
 -- ---- find, case by case
-find-nil : (k : List ℕ) → find k [] ≡ none
+pub find-nil : (k : List ℕ) → find k [] ≡ none
 unfolding find
 find-nil k = refl
 
@@ -151,7 +151,7 @@ module _ (choose : List ℕ → List ℕ → List ℕ) (r : Record) where
   abbrev chosen : Record → Record
   chosen x = record { key = x .key; val = choose (x .val) (r .val) }
 
-  insert-nil : insert choose r [] ≡ r ∷ []
+  pub insert-nil : insert choose r [] ≡ r ∷ []
   unfolding insert
   insert-nil = refl
 

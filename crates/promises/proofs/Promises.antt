@@ -1,34 +1,46 @@
--- The proofs of the promises in specs/Promises.antt.
-use Prim.Native.Nat.{ℕ, zero, suc, _≤_}
+-- The proofs of the promises in specs/Promises.antt. Those of the calls' replies and of opened pages stand in Orders and OpenedLaws.
+use Prim.Native.Nat.{ℕ, _≤_}
 use mathlib.Core.Path.{_≡_, refl, sym, ap, ap₂, _∙_}
 use mathlib.Core.Bool.{true}
-use mathlib.Core.Option.{none, some}
-use mathlib.Core.List.{List, [], _∷_, _++_}
+use mathlib.Core.Option.{Option, none, some}
+use mathlib.Core.List.{List, [], _∷_, _++_, append-assoc, append-nil, Sublistᴰ, Sublistᴰ·refl, Sublistᴰ·nil-sublist, Sublistᴰ·append}
 use native.Mathlib.Omega.{arith}
-use lib.ListN.{length}
-use borrow.Table.Steps.{cases}
-use Rattle.answer.specs.declared.Answer.{Answer}
+use lib.ListN.{length, length-append}
+use lib.Seq.{take-append-seam}
+use borrow.Author.Tests.{le-leb}
+use Rattle.answer.specs.Answer.{Said, said}
+use Rattle.answer.specs.Inner.{LengthFits}
+use Rattle.answer.specs.declared.Refusal.{Refusal}
+use Rattle.answer.specs.declared.Refusal.the-variants.{UnlawfulKey, ValueLength}
+use Rattle.answer.specs.declared.Answer.the-variants.{Done}
+use Rattle.answer.proofs.Laws.{two-come-apart}
 use Rattle.fips180.specs.Bytes.{Bytes, ByteString}
-use Rattle.key.specs.Key.{less}
-use Rattle.page.proofs.Tools.{All}
+use Rattle.sha256.specs.Digest.{longest}
+use Rattle.key.specs.Key.{lawful}
+use Rattle.page.specs.Number.{numberBytes}
+use Rattle.page.specs.Page.{isValue, gapBytes, pageBytes}
+use Rattle.page.proofs.Tools.{All, all-split, and-both}
+use Rattle.tree.specs.Tree.{topLayer, part, entriesOf, pageOf, build, treeOf}
 use Rattle.tree.specs.Record.{Record, records, spelt}
-use Rattle.tree.specs.Table.{SpeltTree, treeOfSet, tableOf}
-use Rattle.tree.specs.Judge.{accepted, judge, fits}
-use Rattle.tree.specs.Place.{places}
-use Rattle.tree.proofs.Laws.{fitting, fitting-fits, records-of-set, table-accepted, accepted-table, table-bytes, Stand, places-stand}
-use Rattle.promises.specs.Map.{find, merge, nth}
-use Rattle.promises.specs.Outcome.{checkVerdict, checkAnswer, listRecord, listVerdict, listOutcome, placeOf, answerPlace, lookupVerdict, lookupAnswer, Outcome, stopped, wrote, Plan, settle, carryOut, putPlan, joinPlan, removePlan, mergePlan, onFirst, putOutcome, joinOutcome, removeOutcome, mergeOutcome, answerOf}
-use Rattle.promises.specs.Difference.{lacking, settleDifference, differenceVerdicts, differenceOutcome}
-use Rattle.promises.specs.Plain.{Call, putCall, removeCall, joinCall, mergeCall, planOf, roomOf, mapOutcome, nextSet, mapAnswers, mapSet, callOutcome, nextHeld, libraryAnswers, held}
-use Rattle.promises.specs.Promises.{RegisterOf, ValuesAreBytes, LookupIs, ReadsWhatItWrites, ReadsNothingElse, CheckCounts, LookupFinds, ListGives, PutFinds, RemoveFinds, JoinFinds, MergeFinds, RefusedWhenDue, AnswersAsTheMap, HoldsItsRegister, OneRegister, SameSetSameBytes, MergeCommutes, MergeAssociates, MergeIdempotent, DifferenceIsExact, DifferenceRefusedWhenDue}
-use Rattle.promises.proofs.MapLaws.{fits-sorted}
+use Rattle.tree.specs.Table.{SpeltTree, linkOf, rawEntries, rawPage, bytesOfPage, table, treeOfSet, tableOf}
+use Rattle.tree.specs.Judge.{due, most, fits, Verdict, refused, accepted, judge}
+use Rattle.tree.proofs.Laws.{due-none, none-due, LawfulKey, RightValue, fitting, fitting-fits, records-of-set, table-accepted, accepted-table, table-bytes, table-grows}
+use Rattle.promises.specs.Map.{put, merge}
+use Rattle.promises.specs.Pages.{pagesOf, openedPages}
+use Rattle.promises.specs.Outcome.{Outcome, stopped, wrote, Plan, sizes, settle, carryOut, putPlan, mergePlan, onFirst, putOutcome, joinOutcome, removeOutcome, mergeOutcome, answerOf, outputOf}
+use Rattle.promises.specs.Difference.{differenceRecords, settleDifference, differenceVerdicts, differenceOutcome, differenceAnswer}
+use Rattle.promises.specs.Plain.{Call, putCall, removeCall, joinCall, mergeCall, planOf, roomOf, mapOutcome, nextSet, mapAnswers, mapSet, callOutcome, callAnswer, callOutput, nextHeld, libraryAnswers, held, emptyRegister, putsOf}
+use Rattle.promises.specs.Register.{RegisterOf}
+use Rattle.promises.specs.Promises.{ValuesAreBytes, ReadsWhatItWrites, ReadsNothingElse, AnswersAsTheMap, HoldsItsRegister, AllDone, PutsReachEverySet, OneRegister, SameSetSameBytes, MergeCommutes, MergeAssociates, MergeIdempotent, DifferenceComesApart}
+use Rattle.promises.proofs.MapLaws.{Before, Sorted, sorted-rising, insert-nil, insert-later, fits-proper, fits-sorted}
 use Rattle.promises.proofs.MergeLaws.{merge-commutes as sets-commute, merge-associates as sets-associate, merge-idempotent as set-idempotent}
-use Rattle.promises.proofs.Steps.{carried, put-result, join-result, remove-result, merge-result, put-fits, join-fits, remove-fits, merged-fits, merge-fits, first-accepted, second-accepted}
-use Rattle.promises.proofs.DifferenceLaws.{opened-is-enough, differenced, difference-fits}
+use Rattle.promises.proofs.Parts.{proper-part}
+use Rattle.promises.proofs.Steps.{sized, carried, put-fits, join-fits, remove-fits, merged-fits, merge-fits, first-accepted, second-accepted}
+use Rattle.promises.proofs.Orders.{register-of}
 
 -- ---- demand 2
 pub reads-what-it-writes : ReadsWhatItWrites
-reads-what-it-writes rs f = record { tree = spelt (treeOfSet rs); judged = table-accepted rs (fitting rs f); spells = records-of-set rs }
+reads-what-it-writes = register-of
 
 -- the table of a set that fits
 abbrev TableOf : List ℕ → List Record → Type 0
@@ -55,92 +67,13 @@ one-register rs f v = record {
   noOther = λ s r. reads-nothing-else s rs r .1;
 }
 
--- ---- lookup
-place-finds : (s k : List ℕ) (rs : List Record) (ps : List ℕ) → Stand s ps rs → LookupIs (find k rs) s (answerPlace (placeOf k rs ps))
-unfolding find placeOf answerPlace
-place-finds s k [] [] h = refl
-place-finds s k [] (p ∷ ps) h = absurd h
-place-finds s k (x ∷ rs) [] h = absurd h
-place-finds s k (x ∷ rs) (p ∷ ps) h =
-    cases (less k (x .key)) (λ e. rw e refl)
-    (λ e. cases (less (x .key) k) (λ f. rw (e, f) (place-finds s k rs ps (h .1))) (λ f. rw (e, f) (p, refl, h .0)))
-
-pub lookup-finds : LookupFinds
-unfolding lookupAnswer lookupVerdict
-lookup-finds s k rs r l =
-    rw (r .judged, l, ← r .spells)
-    (place-finds (s .list) (k .list) (records (r .tree)) (places 0 (r .tree)) (places-stand (s .list) (s .small) (r .tree) (r .judged)))
-
--- ---- check and list
-pub check-counts : CheckCounts
-unfolding checkAnswer checkVerdict
-check-counts = ((λ s rs r. rw (r .judged, r .spells)), (λ s r e. rw e))
-
-nth-there : (before later : List Record) (r : Record) → nth (length before) (before ++ (r ∷ later)) ≡ some r
-unfolding nth
-nth-there [] later r = refl
-nth-there (x ∷ before) later r = nth-there before later r
-
-nth-past : (rs : List Record) (n : ℕ) → length rs ≤ n → nth n rs ≡ none
-unfolding nth
-nth-past [] n h = refl
-nth-past (x ∷ rs) zero h = absurd (omega arith)
-nth-past (x ∷ rs) (suc n) h = nth-past rs n (omega arith)
-
-pub list-gives : ListGives
-unfolding listOutcome listVerdict listRecord
-list-gives s rs r room = (
-  (λ before later x e. rw (r .judged, r .spells, e, nth-there before later x)),
-  (λ n h. rw (r .judged, r .spells, nth-past rs n h)),
-)
-
--- ---- put, remove, join and merge
+-- ---- demand 3
 -- with the register of a set, a plan is carried out with that set
 on-register : (s : List ℕ) (rs : List Record) → RegisterOf s rs → (plan : List Record → Plan) (room : ℕ)
     → onFirst (judge s) plan room ≡ carryOut (plan rs) room
 unfolding onFirst
 on-register s rs r plan room = rw (r .judged, r .spells)
 
--- and it has written the register of its result
-wrote-register : (p : Plan) (room : ℕ) (written : List ℕ) → carryOut p room ≡ wrote written → fits (p .result) ≡ true
-    → RegisterOf written (p .result)
-wrote-register p room written h f = rw (carried p room written h .written) (reads-what-it-writes (p .result) f)
-
-pub put-finds : PutFinds
-unfolding putOutcome
-put-finds s k v rs r room written h =
-    let p = putPlan (k .list) (v .list) in
-    let c = rw (on-register (s .list) rs r p room) at h in
-    let f = put-fits rs (reads-nothing-else s rs r .0) room written (k .list) (v .list) c in
-    (p rs .result, wrote-register (p rs) room written c f, λ key. put-result (k .list) rs key (v .list))
-
-pub join-finds : JoinFinds
-unfolding joinOutcome
-join-finds s k v rs r room written h =
-    let p = joinPlan (k .list) (v .list) in
-    let c = rw (on-register (s .list) rs r p room) at h in
-    let f = join-fits rs (reads-nothing-else s rs r .0) room written (k .list) (v .list) c in
-    (p rs .result, wrote-register (p rs) room written c f, λ key. join-result (k .list) rs key (v .list))
-
-pub remove-finds : RemoveFinds
-unfolding removeOutcome
-remove-finds s k rs r room written h =
-    let p = removePlan (k .list) in
-    let c = rw (on-register (s .list) rs r p room) at h in
-    let fit = reads-nothing-else s rs r .0 in
-    let f = remove-fits rs fit room written (k .list) c in
-    (p rs .result, wrote-register (p rs) room written c f, λ key. remove-result (k .list) rs key (fits-sorted rs fit))
-
-pub merge-finds : MergeFinds
-unfolding mergeOutcome
-merge-finds s u rs qs r q room written h =
-    let p = mergePlan (accepted (q .tree)) in
-    let c = rw (on-register (s .list) rs r (mergePlan (judge (u .list))) room, q .judged) at h in
-    let fit = accepted-is-table u (q .tree) (q .judged) .1 in
-    let f = merge-fits rs (reads-nothing-else s rs r .0) room written (accepted (q .tree)) (λ t e. accepted-is-table u t (q .judged ∙ e) .1) c in
-    (p rs .result, wrote-register (p rs) room written c f, λ key. rw (← q .spells) (merge-result rs (q .tree) key (fits-sorted (records (q .tree)) fit)))
-
--- ---- numbers
 same-outcome : (c : Call) (s : List ℕ) (m : List Record) → RegisterOf s m → callOutcome c s ≡ mapOutcome c m
 unfolding callOutcome mapOutcome planOf roomOf putOutcome joinOutcome removeOutcome mergeOutcome
 same-outcome (putCall k v room) s m r = on-register s m r _ room
@@ -148,16 +81,11 @@ same-outcome (removeCall k room) s m r = on-register s m r _ room
 same-outcome (joinCall k v room) s m r = on-register s m r _ room
 same-outcome (mergeCall u room) s m r = on-register s m r _ room
 
-pub refused-when-due : RefusedWhenDue
-unfolding mapOutcome carryOut settle
-refused-when-due s rs r c = (λ d. same-outcome c (s .list) rs r ∙ rw d, λ n d. same-outcome c (s .list) rs r ∙ rw d)
-
--- ---- demand 3
 plan-fits : (c : Call) (m : List Record) → fits m ≡ true → (t : List ℕ) → mapOutcome c m ≡ wrote t → fits (planOf c m .result) ≡ true
 unfolding mapOutcome planOf roomOf
-plan-fits (putCall k v room) m f t h = put-fits m f room t (k .list) (v .list) h
-plan-fits (removeCall k room) m f t h = remove-fits m f room t (k .list) h
-plan-fits (joinCall k v room) m f t h = join-fits m f room t (k .list) (v .list) h
+plan-fits (putCall k v room) m f t h = put-fits m f room t k v h
+plan-fits (removeCall k room) m f t h = remove-fits m f room t k h
+plan-fits (joinCall k v room) m f t h = join-fits m f room t k v h
 plan-fits (mergeCall u room) m f t h =
     merge-fits m f room t (judge (u .list)) (λ v e. accepted-is-table u v e .1) h
 
@@ -165,22 +93,50 @@ plan-fits (mergeCall u room) m f t h =
 abbrev next : Call → List Record → List Record
 next c m = nextSet (mapOutcome c m) m (planOf c m .result)
 
+-- what is read off the answer and the output is what the outcome wrote, or the register lent
+heldBy : Outcome → List ℕ → List ℕ
+heldBy (stopped r) s = s
+heldBy (wrote t) s = t
+
+read-off : (o : Outcome) (room : ℕ) (s : List ℕ) → nextHeld (answerOf o) (outputOf o room) s ≡ heldBy o s
+unfolding nextHeld answerOf outputOf heldBy
+read-off (stopped r) room s = refl
+read-off (wrote t) room s = take-append-seam t _
+
+next-held : (c : Call) (s : List ℕ) → nextHeld (callAnswer c s) (callOutput c s) s ≡ heldBy (callOutcome c s) s
+unfolding callAnswer callOutput
+next-held c s = read-off (callOutcome c s) (roomOf c) s
+
+-- after a call that wrote a table
+module _ (c : Call) (s t : List ℕ) (h : callOutcome c s ≡ wrote t) where
+  wrote-answers : callAnswer c s ≡ Done (length t)
+  unfolding callAnswer answerOf
+  wrote-answers = rw h
+
+  wrote-held : nextHeld (callAnswer c s) (callOutput c s) s ≡ t
+  unfolding heldBy
+  wrote-held = next-held c s ∙ rw h
+
 step-by : (c : Call) (m : List Record) → fits m ≡ true → (o : Outcome) → mapOutcome c m ≡ o
-    → (nextHeld o (tableOf m) ≡ tableOf (nextSet o m (planOf c m .result))) × (fits (nextSet o m (planOf c m .result)) ≡ true)
-unfolding nextHeld nextSet mapOutcome
+    → (heldBy o (tableOf m) ≡ tableOf (nextSet o m (planOf c m .result))) × (fits (nextSet o m (planOf c m .result)) ≡ true)
+unfolding heldBy nextSet mapOutcome
 step-by c m f (stopped r) h = (refl, f)
 step-by c m f (wrote t) h = (carried (planOf c m) (roomOf c) t h .written, plan-fits c m f t h)
 
 step : (c : Call) (m : List Record) → fits m ≡ true
-    → (nextHeld (callOutcome c (tableOf m)) (tableOf m) ≡ tableOf (next c m)) × (fits (next c m) ≡ true)
-step c m f = rw (same-outcome c (tableOf m) m (reads-what-it-writes m f)) (step-by c m f (mapOutcome c m) refl)
+    → (nextHeld (callAnswer c (tableOf m)) (callOutput c (tableOf m)) (tableOf m) ≡ tableOf (next c m)) × (fits (next c m) ≡ true)
+step c m f = rw (next-held c (tableOf m), same-outcome c (tableOf m) m (register-of m f)) (step-by c m f (mapOutcome c m) refl)
+
+same-answer : (c : Call) (m : List Record) → fits m ≡ true → said (callAnswer c (tableOf m)) ≡ said (answerOf (mapOutcome c m))
+unfolding callAnswer
+same-answer c m f = rw (same-outcome c (tableOf m) m (register-of m f))
 
 same-answers : (calls : List Call) (m : List Record) → fits m ≡ true → libraryAnswers calls (tableOf m) ≡ mapAnswers calls m
 unfolding libraryAnswers mapAnswers
 same-answers [] m f = refl
 same-answers (c ∷ calls) m f =
     let s = step c m f in
-    ap₂ (λ (a : Answer) (l : List Answer). a ∷ l) (ap answerOf (same-outcome c (tableOf m) m (reads-what-it-writes m f))) (rw (s .0) (same-answers calls (next c m) (s .1)))
+    ap₂ (λ (a : Said) (l : List Said). a ∷ l) (same-answer c m f) (rw (s .0) (same-answers calls (next c m) (s .1)))
 
 held-table : (calls : List Call) (m : List Record) → fits m ≡ true
     → (held calls (tableOf m) ≡ tableOf (mapSet calls m)) × (fits (mapSet calls m) ≡ true)
@@ -199,11 +155,74 @@ pub holds-its-register : HoldsItsRegister
 holds-its-register start rs r calls =
     let a = reads-nothing-else start rs r in
     let h = held-table calls rs (a .0) in
-    rw (a .1, h .0) (reads-what-it-writes (mapSet calls rs) (h .1))
+    rw (a .1, h .0) (register-of (mapSet calls rs) (h .1))
 
 pub same-set-same-bytes : SameSetSameBytes
 same-set-same-bytes s u rs qs r q calls others e =
     answers-as-the-map s rs r calls .1 ∙ ap tableOf e ∙ sym (answers-as-the-map u qs q others .1)
+
+-- ---- puts into the empty register
+-- the front of a set that fits fits
+front-fits : (m more : List Record) → fits (m ++ more) ≡ true → fits m ≡ true
+front-fits m more f =
+    let part : Sublistᴰ m (m ++ more) = rw (append-nil m) at (Sublistᴰ·append (Sublistᴰ·refl m) (Sublistᴰ·nil-sublist more)) in
+    let p = proper-part part (fits-proper (m ++ more) f) in
+    let g = fitting (m ++ more) f in
+    fitting-fits m
+    (record {
+      count = omega (arith, g .count, length-append m more);
+      order = sorted-rising m (p .order);
+      keys = p .keys;
+      values = p .values;
+      size = omega (arith, g .size, table-grows m more);
+    })
+
+-- a record whose key is greater than all keys goes to the end
+put-last : (r : Record) (m : List Record) → Sorted (m ++ (r ∷ [])) → put r m ≡ m ++ (r ∷ [])
+unfolding put
+put-last r [] s = insert-nil (λ old new. new) r
+put-last r (x ∷ m) s =
+    let above = all-split (λ y. Before (x .key) (y .key)) m (r ∷ []) (s .0) in
+    insert-later (λ old new. new) r x m (above .1 .0) ∙ ap (λ (l : List Record). x ∷ l) (put-last r m (s .1))
+
+-- a put with so long an output is done where the set that results fits
+put-done : (r : Record) (m : List Record) → fits m ≡ true → fits (m ++ (r ∷ [])) ≡ true
+    → callOutcome (putCall (r .key) (r .val) longest) (tableOf m) ≡ wrote (tableOf (m ++ (r ∷ [])))
+unfolding mapOutcome planOf roomOf putPlan carryOut settle sizes
+put-done r m f g =
+    let rs : List Record = m ++ (r ∷ []) in
+    let e = put-last r m (fits-sorted rs g) in
+    let q = fitting rs g in
+    let key = all-split LawfulKey m (r ∷ []) (q .keys) .1 .0 in
+    let val = all-split RightValue m (r ∷ []) (q .values) .1 .0 in
+    let size = le-leb (length (tableOf rs)) longest (q .size) in
+    let holds = none-due ((UnlawfulKey, lawful (r .key)) ∷ (ValueLength, isValue (r .val)) ∷ sizes rs longest)
+    (key, (val, (le-leb (length rs) most (q .count), (and-both size size, tt)))) in
+    same-outcome (putCall (r .key) (r .val) longest) (tableOf m) m (register-of m f) ∙ rw (e, holds)
+
+-- so puts in key order lengthen the front of the set by one record each
+puts-lengthen : (rs m : List Record) → fits (m ++ rs) ≡ true
+    → AllDone (libraryAnswers (putsOf rs) (tableOf m)) × (held (putsOf rs) (tableOf m) ≡ tableOf (m ++ rs))
+unfolding libraryAnswers held putsOf
+puts-lengthen [] m f = (tt, ap tableOf (sym (append-nil m)))
+puts-lengthen (r ∷ rs) m f =
+    let whole : (m ++ (r ∷ [])) ++ rs ≡ m ++ (r ∷ rs) = append-assoc m (r ∷ []) rs in
+    let g : fits ((m ++ (r ∷ [])) ++ rs) ≡ true = rw whole f in
+    let done = put-done r m (front-fits m (r ∷ rs) f) (front-fits (m ++ (r ∷ [])) rs g) in
+    let later = puts-lengthen rs (m ++ (r ∷ [])) g in
+    let c = putCall (r .key) (r .val) longest in
+    let answered : callAnswer c (tableOf m) ≡ Done (length (tableOf (m ++ (r ∷ [])))) = wrote-answers c (tableOf m) _ done in
+    let holds : nextHeld (callAnswer c (tableOf m)) (callOutput c (tableOf m)) (tableOf m) ≡ tableOf (m ++ (r ∷ [])) = wrote-held c (tableOf m) _ done in
+    (rw (holds, answered) (later .0), ap (held (putsOf rs)) holds ∙ later .1 ∙ ap tableOf whole)
+
+empty-table : emptyRegister ≡ tableOf []
+unfolding tableOf treeOfSet treeOf topLayer build part pageOf entriesOf spelt table bytesOfPage rawPage rawEntries linkOf pageBytes numberBytes gapBytes
+empty-table = refl
+
+pub puts-reach-every-set : PutsReachEverySet
+puts-reach-every-set rs f =
+    let p = puts-lengthen rs [] f in
+    rw empty-table (p .0, p .1, rw (p .1) (register-of rs f))
 
 -- ---- merge
 -- the registers that a merge which is not refused has read
@@ -253,21 +272,25 @@ merge-idempotent a n aa h =
     let (m, p) = first-table a (a .list) n aa h in
     merged-table (a .list) (a .list) m m p p n aa h .0 ∙ ap tableOf (set-idempotent m (fits-sorted m (p .1))) ∙ sym (p .0)
 
--- ---- the difference
-pub difference-is-exact : DifferenceIsExact
-unfolding differenceOutcome
-difference-is-exact s u t v j k unshared room bytes count h =
-    let d = differenced t v room bytes count (rw (j, k) at h) in
-    let a = accepted-table (s .list) (s .small) t j in
-    let b = accepted-table (u .list) (u .small) v k in
-    let f = difference-fits t v (fitting-fits (records v) (b .fit)) room (d .measured) in
-    let e = opened-is-enough (s .list) (u .list) t v a b unshared in
-    rw (d .written, e) (refl, reads-what-it-writes (lacking (records t) (records v)) (rw e at f), d .counted)
+-- ---- the difference's answer as one number
+-- the length of a table that was written is below 2^24
+settled-short : (o : Option Refusal) (rs : List Record) (count : ℕ) → (o ≡ none → length (tableOf rs) ≤ longest)
+    → LengthFits (differenceAnswer (settleDifference o rs count))
+unfolding settleDifference differenceAnswer
+settled-short none rs count f = omega (arith, f refl)
+settled-short (some r) rs count f = tt
 
-pub difference-refused-when-due : DifferenceRefusedWhenDue
-unfolding differenceOutcome differenceVerdicts settleDifference
-difference-refused-when-due s u t v j k unshared room =
-    let a = accepted-table (s .list) (s .small) t j in
-    let b = accepted-table (u .list) (u .small) v k in
-    let e = opened-is-enough (s .list) (u .list) t v a b unshared in
-    rw (j, k, e) (λ d. rw d, λ n d. rw d)
+verdicts-short : (v w : Verdict) (room : ℕ) → LengthFits (differenceAnswer (differenceVerdicts v w room))
+unfolding differenceVerdicts differenceAnswer
+verdicts-short (refused r) w room = tt
+verdicts-short (accepted t) (refused r) room = tt
+verdicts-short (accepted t) (accepted u) room =
+    let rs : List Record = differenceRecords t u in
+    settled-short (due (sizes rs room)) rs (length (openedPages (pagesOf t) u)) (λ e. sized rs room (due-none (sizes rs room) e) .size)
+
+pub difference-short : (s u : List ℕ) (room : ℕ) → LengthFits (differenceAnswer (differenceOutcome s u room))
+unfolding differenceOutcome
+difference-short s u room = verdicts-short (judge s) (judge u) room
+
+pub difference-comes-apart : DifferenceComesApart
+difference-comes-apart s u room = two-come-apart (differenceAnswer (differenceOutcome (s .list) (u .list) room)) (difference-short (s .list) (u .list) room)

@@ -17,7 +17,7 @@ use Rattle.tree.specs.Judge.{equal, Test, due, most, fits, Verdict, refused, ac
 use Rattle.tree.proofs.Laws.{equal-cases, AllTests, due-none, fitting-fits}
 use Rattle.promises.specs.Map.{find, put, join, remove, merge, greaterFound}
 use Rattle.promises.specs.Outcome.{Outcome, stopped, wrote, Plan, sizes, settle, carryOut, putPlan, joinPlan, removePlan, mergePlan, onFirst, outputOf}
-use Rattle.promises.proofs.MapLaws.{Sorted, sorted-rising, find-put-same, find-put-other, find-join-same, find-join-other, find-remove-same, find-remove-other, find-merge, Proper, fits-proper, proper-put, proper-join, proper-remove, proper-merge}
+use Rattle.promises.proofs.MapLaws.{Sorted, sorted-rising, find-put-same, find-put-other, find-join-same, find-join-other, find-remove-same, find-remove-other, Proper, fits-proper, proper-put, proper-join, proper-remove, proper-merge}
 
 -- ---- a call that is not refused: its tests hold, and it wrote the table of its result
 pub record Sized (m : List Record) (room : ℕ) : Type 0 where
@@ -59,26 +59,19 @@ written-length p room t h =
 
 -- ---- what each key finds in the set that results
 module _ (k : List ℕ) (m : List Record) (key : List ℕ) where
-  pub put-result : (v : List ℕ) → find key (putPlan k v m .result) ≡ cond (equal key k) (some v) (find key m)
-  unfolding putPlan
-  put-result v =
+  pub put-finds : (v : List ℕ) → find key (put (record { key = k; val = v }) m) ≡ cond (equal key k) (some v) (find key m)
+  put-finds v =
       let r : Record = record { key = k; val = v } in
       equal-cases key k (λ e q. rw (e, q) (find-put-same r m)) (λ e n. rw e (find-put-other r m key n))
 
-  pub join-result : (v : List ℕ) → find key (joinPlan k v m .result) ≡ cond (equal key k) (greaterFound (find key m) (some v)) (find key m)
-  unfolding joinPlan
-  join-result v =
+  pub join-finds : (v : List ℕ)
+      → find key (join (record { key = k; val = v }) m) ≡ cond (equal key k) (greaterFound (find key m) (some v)) (find key m)
+  join-finds v =
       let r : Record = record { key = k; val = v } in
       equal-cases key k (λ e q. rw (e, q) (find-join-same r m)) (λ e n. rw e (find-join-other r m key n))
 
-  pub remove-result : Sorted m → find key (removePlan k m .result) ≡ cond (equal key k) none (find key m)
-  unfolding removePlan
-  remove-result s = equal-cases key k (λ e q. rw (e, q) (find-remove-same k m s)) (λ e n. rw e (find-remove-other k key n m s))
-
-pub merge-result : (m : List Record) (t : SpeltTree) (key : List ℕ) → Sorted (records t)
-    → find key (mergePlan (accepted t) m .result) ≡ greaterFound (find key m) (find key (records t))
-unfolding mergePlan
-merge-result m t key s = find-merge key (records t) m s
+  pub remove-finds : Sorted m → find key (remove k m) ≡ cond (equal key k) none (find key m)
+  remove-finds s = equal-cases key k (λ e q. rw (e, q) (find-remove-same k m s)) (λ e n. rw e (find-remove-other k key n m s))
 
 -- ---- the set that results fits
 pub sized-fits : (m : List Record) (room : ℕ) → Proper m → Sized m room → fits m ≡ true

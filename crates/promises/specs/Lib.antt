@@ -1,6 +1,10 @@
 pub mod Map
+pub mod Pages
 pub mod Outcome
 pub mod Difference
+pub mod Register
+pub mod Reply
+pub mod Order
 pub mod Plain
 pub mod Promises
 pub mod Listing

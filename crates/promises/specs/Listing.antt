@@ -1,12 +1,14 @@
 -- The listing program's text for what it reads from standard input.
-use Prim.Native.Nat.{ℕ, zero, suc, _+_, _/_, _%_}
+use Prim.Native.Nat.{ℕ, zero, suc, _+_, _/_, _%_, _≤_}
+use mathlib.Core.Path.{_≡_}
 use mathlib.Core.Bool.{cond}
 use mathlib.Core.List.{List, [], _∷_, _++_}
-use lib.ListN.{length}
+use lib.ListN.{length, take}
 use lib.Dec.{ltb, leb}
 use Rattle.answer.specs.Answer.{numberOf}
 use Rattle.answer.specs.declared.Refusal.{Refusal}
 use Rattle.answer.specs.declared.Refusal.the-variants.{TooLong}
+use Rattle.fips180.specs.Bytes.{ByteString}
 use Rattle.tree.specs.Record.{Record, records}
 use Rattle.tree.specs.Judge.{Verdict, refused, accepted, judge}
 
@@ -59,3 +61,14 @@ longestInput = 65536
 
 unfoldable pub listing : List ℕ → List ℕ
 listing s = cond (leb (length s) longestInput) (listingVerdict (judge s)) (refusalLine TooLong)
+
+-- The first 65,537 bytes of an input decide its listing; the program reads no more.
+abbrev pub FirstBytesDecide : Type 0
+FirstBytesDecide = (s : List ℕ) → listing (take (longestInput + 1) s) ≡ listing s
+
+-- No listing is longer than the program's output, 524,288 bytes.
+abbrev pub longestListing : ℕ
+longestListing = 524288
+
+abbrev pub ListingFits : Type 0
+ListingFits = (s : ByteString) → length (listing (s .list)) ≤ longestListing

@@ -5,6 +5,7 @@ use mathlib.Core.Option.{Option, none, some}
 use mathlib.Core.List.{List, [], _∷_}
 use Rattle.key.specs.Key.{less}
 use Rattle.tree.specs.Record.{Record}
+use Rattle.tree.specs.Judge.{equal}
 
 -- The value under a key.
 unfoldable pub find : List ℕ → List Record → Option (List ℕ)
@@ -55,6 +56,12 @@ unfoldable pub greaterFound : Option (List ℕ) → Option (List ℕ) → Option
 greaterFound none w = w
 greaterFound (some v) none = some v
 greaterFound (some v) (some w) = some (greater v w)
+
+-- What a key finds in a second set where a first has another value under it, or none; and nothing otherwise.
+unfoldable pub onlyInSecond : Option (List ℕ) → Option (List ℕ) → Option (List ℕ)
+onlyInSecond v none = none
+onlyInSecond none (some w) = some w
+onlyInSecond (some v) (some w) = cond (equal v w) none (some w)
 
 -- The n-th record in key order, n from 0.
 unfoldable pub nth : ℕ → List Record → Option Record

@@ -1,32 +1,25 @@
 -- What is promised of the calls. Each promise is a statement; its proof has the same name in proofs/Promises.antt.
-use Prim.Native.Nat.{ℕ, _≤_}
+use Prim.Native.Nat.{ℕ}
 use mathlib.Core.Path.{_≡_}
 use mathlib.Core.Bool.{true, cond}
 use mathlib.Core.Logic.{_⊎_}
-use mathlib.Core.Option.{Option, none, some}
 use mathlib.Core.List.{List, [], _∷_, _++_}
-use lib.ListN.{length, take, drop}
-use lib.Dec.{leb}
-use Rattle.answer.specs.declared.Answer.{Answer}
-use Rattle.answer.specs.declared.Answer.the-variants.{Done, Refused}
-use Rattle.answer.specs.declared.Refusal.{Refusal}
-use Rattle.answer.specs.declared.Refusal.the-variants.{KeyAbsent, NoRoom}
+use lib.ListN.{length}
+use Rattle.answer.specs.Answer.{Said, refusedWith, doneWith, encodedDifference, saidOfDifference, takenApartInTwo}
 use Rattle.fips180.specs.Bytes.{Bytes, ByteString}
 use Rattle.fips180.specs.Hash.{sha256}
-use Rattle.key.specs.Key.{lawful}
+use Rattle.tree.specs.Tree.{pages}
 use Rattle.tree.specs.Record.{Record, records}
-use Rattle.tree.specs.Table.{SpeltTree, tableOf}
-use Rattle.tree.specs.Judge.{Test, due, equal, refused, accepted, judge, fits}
-use Rattle.promises.specs.Map.{find, greaterFound}
-use Rattle.promises.specs.Outcome.{checkAnswer, lookupAnswer, unlisted, pastTheEnd, listed, listOutcome, stopped, wrote, sizes, putOutcome, joinOutcome, removeOutcome, mergeOutcome}
-use Rattle.promises.specs.Difference.{pagesOf, countOpened, lacking, stopped as differenceStopped, found, differenceOutcome}
-use Rattle.promises.specs.Plain.{Call, planOf, roomOf, mapAnswers, mapSet, callOutcome, libraryAnswers, held}
-
--- A byte string is the register of the set of records that its pages spell.
-pub record RegisterOf (s : List ℕ) (rs : List Record) : Type 0 where
-  pub tree : SpeltTree
-  pub judged : judge s ≡ accepted tree
-  pub spells : records tree ≡ rs
+use Rattle.tree.specs.Table.{SpeltTree, bytesOfPage, tableOf}
+use Rattle.tree.specs.Judge.{accepted, judge, fits}
+use Rattle.promises.specs.Map.{find, onlyInSecond}
+use Rattle.promises.specs.Pages.{pagesOf, known, openedPages, linkedPages}
+use Rattle.promises.specs.Outcome.{wrote, mergeOutcome}
+use Rattle.promises.specs.Difference.{differenceOutcome, differenceAnswer}
+use Rattle.promises.specs.Register.{RegisterOf}
+use Rattle.promises.specs.Reply.{checkReply, lookupReply, listReply, putReply, joinReply, removeReply, mergeReply, differenceReply}
+use Rattle.promises.specs.Order.{ResultFinds, CheckOrder, LookupOrder, ListOrder, PutOrder, JoinOrder, RemoveOrder, MergeOrder, DifferenceOrder}
+use Rattle.promises.specs.Plain.{Call, mapAnswers, mapSet, libraryAnswers, held, emptyRegister, putsOf}
 
 -- Demand 2. The table of a set that fits is accepted as that set's register, and a register that is accepted is the table of a set that fits.
 abbrev pub ReadsWhatItWrites : Type 0
@@ -35,74 +28,42 @@ ReadsWhatItWrites = (rs : List Record) → fits rs ≡ true → RegisterOf (tabl
 abbrev pub ReadsNothingElse : Type 0
 ReadsNothingElse = (s : ByteString) (rs : List Record) → RegisterOf (s .list) rs → (fits rs ≡ true) × (s .list ≡ tableOf rs)
 
--- Lookup, put, remove, join and merge do what they do to a sorted map. Lookup of a lawful key answers number 12 where the key finds nothing,
--- and otherwise the place where the 32 bytes of its value begin.
-abbrev pub LookupIs : Option (List ℕ) → List ℕ → Answer → Type 0
-LookupIs none s answer = answer ≡ Refused KeyAbsent
-LookupIs (some v) s answer = (place : ℕ) × (answer ≡ Done place) × (take 32 (drop place s) ≡ v)
+-- The calls do what they do to a sorted map, and are refused in the order of checks: when each number is given, and what is answered and
+-- written otherwise.
+abbrev pub CheckReplies : Type 0
+CheckReplies = (s : ByteString) → CheckOrder (s .list) (checkReply (s .list))
 
-abbrev pub LookupFinds : Type 0
-LookupFinds =
-    (s k : ByteString) (rs : List Record) → RegisterOf (s .list) rs → lawful (k .list) ≡ true
-    → LookupIs (find (k .list) rs) (s .list) (lookupAnswer (s .list) (k .list))
+abbrev pub LookupReplies : Type 0
+LookupReplies = (s k : ByteString) → LookupOrder (s .list) (k .list) (lookupReply (s .list) (k .list))
 
--- Check answers the record count of a register, and the number that is due on any other byte string.
-abbrev pub CheckCounts : Type 0
-CheckCounts =
-    ((s : ByteString) (rs : List Record) → RegisterOf (s .list) rs → checkAnswer (s .list) ≡ Done (length rs))
-    × ((s : ByteString) (r : Refusal) → judge (s .list) ≡ refused r → checkAnswer (s .list) ≡ Refused r)
+abbrev pub ListReplies : Type 0
+ListReplies =
+    (s : ByteString) (n room : ℕ) → ListOrder (s .list) n room (listReply (s .list) n room)
 
--- List gives the record that so many others come before, or number 13 where its key is longer than the output; from the count on it is past
--- the end.
-abbrev pub ListGives : Type 0
-ListGives =
-    (s : ByteString) (rs : List Record) → RegisterOf (s .list) rs → (room : ℕ)
-    → ((before later : List Record) (r : Record) → rs ≡ before ++ (r ∷ later)
-    → listOutcome (s .list) (length before) room ≡ cond (leb (length (r .key)) room) (listed r) (unlisted NoRoom))
-    × ((n : ℕ) → length rs ≤ n → listOutcome (s .list) n room ≡ pastTheEnd)
+abbrev pub PutReplies : Type 0
+PutReplies =
+    (s k v : ByteString) (room : ℕ) → PutOrder (s .list) (k .list) (v .list) room (putReply (s .list) (k .list) (v .list) room)
 
--- A writing call that is not refused wrote the register of a new set. It is known by what each key finds in it.
-abbrev pub NewSetFinds : List ℕ → (List ℕ → Option (List ℕ)) → Type 0
-NewSetFinds written finds = (new : List Record) × RegisterOf written new × ((key : List ℕ) → find key new ≡ finds key)
+abbrev pub JoinReplies : Type 0
+JoinReplies =
+    (s k v : ByteString) (room : ℕ) → JoinOrder (s .list) (k .list) (v .list) room (joinReply (s .list) (k .list) (v .list) room)
 
--- After a put the key finds the value, and every other key what it found before.
-abbrev pub PutFinds : Type 0
-PutFinds =
-    (s k v : ByteString) (rs : List Record) → RegisterOf (s .list) rs → (room : ℕ) (written : List ℕ)
-    → putOutcome (s .list) (k .list) (v .list) room ≡ wrote written
-    → NewSetFinds written (λ key. cond (equal key (k .list)) (some (v .list)) (find key rs))
+abbrev pub RemoveReplies : Type 0
+RemoveReplies = (s k : ByteString) (room : ℕ) → RemoveOrder (s .list) (k .list) room (removeReply (s .list) (k .list) room)
 
--- After a removal the key finds nothing, and every other key what it found before.
-abbrev pub RemoveFinds : Type 0
-RemoveFinds =
-    (s k : ByteString) (rs : List Record) → RegisterOf (s .list) rs → (room : ℕ) (written : List ℕ)
-    → removeOutcome (s .list) (k .list) room ≡ wrote written
-    → NewSetFinds written (λ key. cond (equal key (k .list)) none (find key rs))
+abbrev pub MergeReplies : Type 0
+MergeReplies = (s u : ByteString) (room : ℕ) → MergeOrder (s .list) (u .list) room (mergeReply (s .list) (u .list) room)
 
--- After a join the key finds the greater of what it found before and the value, and every other key what it found before.
-abbrev pub JoinFinds : Type 0
-JoinFinds =
-    (s k v : ByteString) (rs : List Record) → RegisterOf (s .list) rs → (room : ℕ) (written : List ℕ)
-    → joinOutcome (s .list) (k .list) (v .list) room ≡ wrote written
-    → NewSetFinds written (λ key. cond (equal key (k .list)) (greaterFound (find key rs) (some (v .list))) (find key rs))
+abbrev pub DifferenceReplies : Type 0
+DifferenceReplies =
+    (s u : ByteString) (room : ℕ) → DifferenceOrder (s .list) (u .list) room (differenceReply (s .list) (u .list) room)
 
--- After a merge each key finds the greater of what it found in the two.
-abbrev pub MergeFinds : Type 0
-MergeFinds =
-    (s u : ByteString) (rs qs : List Record) → RegisterOf (s .list) rs → RegisterOf (u .list) qs → (room : ℕ) (written : List ℕ)
-    → mergeOutcome (s .list) (u .list) room ≡ wrote written
-    → NewSetFinds written (λ key. greaterFound (find key rs) (find key qs))
-
--- A writing call answers the first number that is due on its set and its arguments, and where none is due it writes: a number is returned in
--- no other case.
-abbrev pub testsOf : Call → List Record → List Test
-testsOf call rs = planOf call rs .asks ++ sizes (planOf call rs .result) (roomOf call)
-
-abbrev pub RefusedWhenDue : Type 0
-RefusedWhenDue =
-    (s : ByteString) (rs : List Record) → RegisterOf (s .list) rs → (call : Call)
-    → (due (testsOf call rs) ≡ none → callOutcome call (s .list) ≡ wrote (tableOf (planOf call rs .result)))
-    × ((r : Refusal) → due (testsOf call rs) ≡ some r → callOutcome call (s .list) ≡ stopped r)
+-- The difference's answer as one number comes apart into its two values, or the number of its refusal.
+abbrev pub DifferenceComesApart : Type 0
+DifferenceComesApart =
+    (s u : ByteString) (room : ℕ)
+    → takenApartInTwo (encodedDifference (differenceAnswer (differenceOutcome (s .list) (u .list) room)))
+    ≡ saidOfDifference (differenceAnswer (differenceOutcome (s .list) (u .list) room))
 
 -- Demand 3. For every list of puts, removals, joins and merges from any accepted register: every call answers as the plain map does, and after
 -- the list the register held is, byte for byte, that of the map's set.
@@ -116,6 +77,19 @@ abbrev pub HoldsItsRegister : Type 0
 HoldsItsRegister =
     (start : ByteString) (rs : List Record) → RegisterOf (start .list) rs → (calls : List Call)
     → RegisterOf (held calls (start .list)) (mapSet calls rs)
+
+-- Puts into the empty register reach any set: those of its records in key order, each with an output of 4,194,304 bytes, are all done.
+abbrev pub AllDone : List Said → Type 0
+AllDone [] = Unit {0}
+AllDone (refusedWith n ∷ answers) = ⊥
+AllDone (doneWith values ∷ answers) = AllDone answers
+
+abbrev pub PutsReachEverySet : Type 0
+PutsReachEverySet =
+    (rs : List Record) → fits rs ≡ true
+    → AllDone (libraryAnswers (putsOf rs) emptyRegister)
+    × (held (putsOf rs) emptyRegister ≡ tableOf rs)
+    × RegisterOf (held (putsOf rs) emptyRegister) rs
 
 -- Of all byte strings, exactly one is the register of a given set that fits. Its values are strings of bytes; its keys are by the key rule.
 abbrev pub ValuesAreBytes : List Record → Type 0
@@ -165,16 +139,24 @@ NoSharedDigest t u =
 -- records of the second, key and value, that the first lacks, provided no two unequal pages of the two share a digest.
 abbrev pub DifferenceIsExact : Type 0
 DifferenceIsExact =
-    (s u : ByteString) (t v : SpeltTree) → judge (s .list) ≡ accepted t → judge (u .list) ≡ accepted v → NoSharedDigest t v
-    → (room : ℕ) (bytes : List ℕ) (count : ℕ) → differenceOutcome (s .list) (u .list) room ≡ found bytes count
-    → (bytes ≡ tableOf (lacking (records t) (records v)))
-    × RegisterOf bytes (lacking (records t) (records v))
-    × (count ≡ countOpened (pagesOf t) v)
+    (s u : ByteString) (t w : SpeltTree) → judge (s .list) ≡ accepted t → judge (u .list) ≡ accepted w → NoSharedDigest t w → (room : ℕ)
+    → ResultFinds (differenceReply (s .list) (u .list) room) room (length (openedPages (pagesOf t) w) ∷ [])
+    (λ key. onlyInSecond (find key (records t)) (find key (records w)))
 
--- It is refused with 5 or 13 when that number is due on those records, and in no other case.
-abbrev pub DifferenceRefusedWhenDue : Type 0
-DifferenceRefusedWhenDue =
-    (s u : ByteString) (t v : SpeltTree) → judge (s .list) ≡ accepted t → judge (u .list) ≡ accepted v → NoSharedDigest t v → (room : ℕ)
-    → (due (sizes (lacking (records t) (records v)) room) ≡ none
-    → differenceOutcome (s .list) (u .list) room ≡ found (tableOf (lacking (records t) (records v))) (countOpened (pagesOf t) v))
-    × ((r : Refusal) → due (sizes (lacking (records t) (records v)) room) ≡ some r → differenceOutcome (s .list) (u .list) room ≡ differenceStopped r)
+-- Opened pages by descent: under a page that is known there is none; a page that is not is opened, and after it come those of the pages that
+-- it links to.
+unfoldable pub openedOfEach : List (List ℕ) → List SpeltTree → List SpeltTree
+openedOfEach first [] = []
+openedOfEach first (p ∷ ps) = openedPages first p ++ openedOfEach first ps
+
+abbrev pub OpenedByDescent : Type 0
+OpenedByDescent =
+    (first : List (List ℕ)) (t : SpeltTree)
+    → openedPages first t ≡ cond (known first (bytesOfPage t)) [] (t ∷ openedOfEach first (linkedPages t))
+
+-- Where no page is known all are opened; of a register and itself none is.
+abbrev pub AllOpened : Type 0
+AllOpened = (t : SpeltTree) → length (openedPages [] t) ≡ pages t
+
+abbrev pub NoneOpened : Type 0
+NoneOpened = (t : SpeltTree) → openedPages (pagesOf t) t ≡ []

@@ -10,7 +10,6 @@ use lib.Seq.{length-take-le, take-all, getD-take}
 use lib.Dec.{leb}
 use borrow.Author.Tests.{le-leb}
 use borrow.Table.Steps.{cases}
-use Rattle.answer.specs.Answer.{LengthFits}
 use Rattle.answer.specs.declared.Refusal.{Refusal}
 use Rattle.answer.specs.declared.Refusal.the-variants.{NoRoom}
 use Rattle.answer.specs.declared.Answer.{Answer}
@@ -25,13 +24,12 @@ use Rattle.tree.specs.Tree.{page, Gap, empty, under, Entries, end, entry}
 use Rattle.tree.specs.Record.{Record, Spelt, records}
 use Rattle.tree.specs.Table.{SpeltTree, bytesOfPage, table, tableUnder, tableFrom, tableOf}
 use Rattle.tree.specs.Judge.{due, most, Verdict, refused, accepted, judge}
-use Rattle.tree.proofs.Laws.{due-none}
 use Rattle.tree.proofs.Accept.{Accepted, accepted-table}
 use Rattle.index.specs.Walk.{AcceptedIndex}
 use Rattle.row.specs.Row.{recordOf, Stands, Row, recordsOf}
 use Rattle.row.proofs.Rows.{records-length, accepted-short, accepted-row, accepted-records, second-row, second-records}
 use Rattle.writer.specs.Output.{fitsOutput, tableAnswer, tableOutput}
-use Rattle.promises.specs.Difference.{pagesOf, known, opened, countOpened, countOpenedUnder, countOpenedFrom}
+use Rattle.promises.specs.Pages.{pagesOf, known, openedPages}
 use Rattle.opened.specs.Known.{pagesIn}
 use Rattle.opened.specs.Passing.{flags, pick, marked, IsAccepted, OpenedStaged}
 use Rattle.opened.specs.declared.pass.Opening.{Opening}
@@ -41,9 +39,10 @@ use Rattle.promises.specs.Outcome.{sizes}
 use Rattle.promises.specs.Difference.{Difference, stopped, found, differenceRecords, settleDifference, differenceVerdicts, differenceOutcome, differenceAnswer, differenceOutput}
 use Rattle.choice.specs.Choice.{RowOf}
 use Rattle.lacking.specs.Sifting.{siftedOf}
-use Rattle.promises.proofs.MapLaws.{Sorted, rising-sorted, Proper}
-use Rattle.promises.proofs.Steps.{sized}
-use Rattle.promises.proofs.DifferenceLaws.{proper-part, opened-part}
+use Rattle.promises.proofs.MapLaws.{Sorted, rising-sorted}
+use Rattle.promises.proofs.Parts.{sorted-part}
+use Rattle.promises.proofs.OpenedLaws.{descent, descentUnder, descentFrom, opened-descent, openedRecords, opened-part}
+use Rattle.promises.proofs.DifferenceLaws.{difference-opened}
 use Rattle.choice.proofs.Choosing.{all-first, first-at}
 use Rattle.lacking.proofs.Sifting.{sift-lacking}
 use Rattle.register.proofs.Verdicts.{accepted-few}
@@ -55,20 +54,23 @@ page-bytes t = omega arith
 
 module _ (first : List (List ℕ)) where
   mutual
-    unfolding countOpened table
+    unfolding descent table
 
-    pub opened-few : (t : SpeltTree) → countOpened first t ≤ length (table t)
-    opened-few (page g es) =
-        let whole : 1 + (countOpenedUnder first g + countOpenedFrom first es) ≤ length (table (page g es)) = omega (arith, page-bytes (page g es), length-append (bytesOfPage (page g es)) (tableUnder g ++ tableFrom es), length-append (tableUnder g) (tableFrom es), opened-few-under g, opened-few-from es) in
+    descent-few : (t : SpeltTree) → length (descent first t) ≤ length (table t)
+    descent-few (page g es) =
+        let whole : length (page g es ∷ (descentUnder first g ++ descentFrom first es)) ≤ length (table (page g es)) = omega (arith, length-append (descentUnder first g) (descentFrom first es), page-bytes (page g es), length-append (bytesOfPage (page g es)) (tableUnder g ++ tableFrom es), length-append (tableUnder g) (tableFrom es), descent-few-under g, descent-few-from es) in
         cases (known first (bytesOfPage (page g es))) (λ e. rw e (omega arith)) (λ e. rw e whole)
 
-    opened-few-under : (g : Gap Spelt (List ℕ)) → countOpenedUnder first g ≤ length (tableUnder g)
-    opened-few-under empty = omega arith
-    opened-few-under (under digest p) = opened-few p
+    descent-few-under : (g : Gap Spelt (List ℕ)) → length (descentUnder first g) ≤ length (tableUnder g)
+    descent-few-under empty = omega arith
+    descent-few-under (under digest p) = descent-few p
 
-    opened-few-from : (es : Entries Spelt (List ℕ)) → countOpenedFrom first es ≤ length (tableFrom es)
-    opened-few-from end = omega arith
-    opened-few-from (entry e g es) = omega (arith, length-append (tableUnder g) (tableFrom es), opened-few-under g, opened-few-from es)
+    descent-few-from : (es : Entries Spelt (List ℕ)) → length (descentFrom first es) ≤ length (tableFrom es)
+    descent-few-from end = omega arith
+    descent-few-from (entry e g es) = omega (arith, length-append (descentUnder first g) (descentFrom first es), length-append (tableUnder g) (tableFrom es), descent-few-under g, descent-few-from es)
+
+  opened-few : (t : SpeltTree) → length (openedPages first t) ≤ length (table t)
+  opened-few t = rw (opened-descent first t) (descent-few t)
 
 -- ---- those of a list whose flag is set
 pick-all : (P : ℕ → Type 0) (bs : List Bool) (l : List ℕ) → All P l → All P (pick bs l)
@@ -123,7 +125,7 @@ module _ (s u other : List ℕ) (m : ℕ) (bytes : Bytes u) (x : AcceptedIndex u
       stands = first-at (Stands s u) row (r .staged) (omega (arith, o .fits)) (rw (o .staged) (pick-all (Stands s u) bs words (words-stand h)));
     }
 
-    records-staged : recordsOf s u row (r .staged) ≡ opened first (x .tree)
+    records-staged : recordsOf s u row (r .staged) ≡ openedRecords first (x .tree)
     unfolding recordsOf
     records-staged =
         ap (map (recordOf s u)) (o .staged) ∙ sym (pick-map (recordOf s u) bs words) ∙ rw words-records (sym (opened-picks first (x .tree)))
@@ -191,11 +193,11 @@ module _ {s u index other : List ℕ} {n m : ℕ} (b : Both s u index other n m)
       (record { tree = t; judged = b .first .judged }, b .second, b .others-fit, accepted-few (b .others) (b .second), first-short, second-short)
 
   -- what is opened rises
-  opened-sorted : Sorted (opened (pagesOf t) v)
-  opened-sorted =
-      let f = secondAccepted .fit in
-      let p : Proper (records v) = record { order = rising-sorted (records v) (f .order); keys = f .keys; values = f .values } in
-      proper-part (opened-part (pagesOf t) v) p .order
+  second-sorted : Sorted (records v)
+  second-sorted = rising-sorted (records v) (secondAccepted .fit .order)
+
+  opened-sorted : Sorted (openedRecords (pagesOf t) v)
+  opened-sorted = sorted-part (opened-part (pagesOf t) v) second-sorted
 
   module _ (r : Opening) (row : List ℕ) (o : (w : SpeltTree) → judge u ≡ accepted w → OpenedStaged (pagesIn (judge s)) w other m r row) (size : length row ≡ most) where
     staged : OpenedStaged (pagesOf t) v other m r row
@@ -220,13 +222,13 @@ module _ {s u index other : List ℕ} {n m : ℕ} (b : Both s u index other n m)
         (omega (arith, staged .fits, accepted-few (b .others) (b .second)), omega (arith, staged .opened, opened-few (pagesOf t) v, ap length e, second-short))
 
     sifted-records : siftedOf s u index n row (r .staged) ≡ differenceRecords t v
-    unfolding siftedOf differenceRecords
+    unfolding siftedOf
     sifted-records =
         rw (
           accepted-records s index t n (b .bytes) (b .first .judged) (b .first .indexed) (b .first .size) (b .fits) u,
           records-staged s u other m (b .others) (b .second) (b .others-fit) (pagesOf t) r row staged enough,
         )
-        (sift-lacking (records t) (opened (pagesOf t) v) opened-sorted)
+        (sift-lacking (records t) (openedRecords (pagesOf t) v) opened-sorted ∙ sym (difference-opened t v second-sorted))
 
     module _ (row′ : List ℕ) (k : ℕ) (w : RowOf s u row′ k (siftedOf s u index n row (r .staged))) (room : ℕ) where
       row-records : recordsOf s u row′ k ≡ differenceRecords t v
@@ -254,25 +256,6 @@ module _ {s u index other : List ℕ} {n m : ℕ} (b : Both s u index other n m)
             → (Refused q ≡ differenceAnswer (differenceOutcome s u room)) × (out ≡ differenceOutput (differenceOutcome s u room) room)
         difference-refused q e =
             (rw outcome (settled-refused (differenceRecords t v) few room (r .opened) answer (rw row-records at (says .0)) q e), wrote)
-
--- ---- the length that is answered
-module _ (room : ℕ) where
-  settled-fits : (o : Option Refusal) (rs : List Record) (count : ℕ) → (o ≡ none → length (tableOf rs) ≤ longest) → LengthFits (differenceAnswer (settleDifference o rs count))
-  unfolding settleDifference differenceAnswer
-  settled-fits none rs count f = omega (arith, f refl)
-  settled-fits (some r) rs count f = tt
-
-  verdicts-fit : (v w : Verdict) → LengthFits (differenceAnswer (differenceVerdicts v w room))
-  unfolding differenceVerdicts differenceAnswer
-  verdicts-fit (refused r) w = tt
-  verdicts-fit (accepted t) (refused r) = tt
-  verdicts-fit (accepted t) (accepted u) =
-      let rs : List Record = differenceRecords t u in
-      settled-fits (due (sizes rs room)) rs (countOpened (pagesOf t) u) (λ e. sized rs room (due-none (sizes rs room) e) .size)
-
-pub length-fits : (s u : List ℕ) (room : ℕ) → LengthFits (differenceAnswer (differenceOutcome s u room))
-unfolding differenceOutcome
-length-fits s u room = verdicts-fit room (judge s) (judge u)
 
 -- ---- a register that is refused
 module _ (s u : List ℕ) (room : ℕ) (q : Refusal) (out : List ℕ) (cleared : out ≡ zeros room) where

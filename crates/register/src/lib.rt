@@ -1,7 +1,7 @@
 // The calls on registers.
 mod bytes; // bytes of outputs
-pub mod differ; // the difference of two registers that are accepted
-pub mod write; // what the writing calls write
+mod differ; // the difference of two registers that are accepted
+mod write; // what the writing calls write
 
 use crate::bytes::copy_in;
 use crate::differ::differ;

@@ -93,7 +93,7 @@ pub fn fetch_from(s: &[u8], word: u64, buffer: &mut [u8], note: u64) -> Found
 }
 
 // The record whose places are in the word, in the register that the word belongs to.
-pub fn fetch_of(s: &[u8], u: &[u8], word: u64, buffer: &mut [u8], note: u64) -> Found
+pub(crate) fn fetch_of(s: &[u8], u: &[u8], word: u64, buffer: &mut [u8], note: u64) -> Found
     ensures { λ r. ⌜ FetchSays (sourceOf (now (s .entry)) (now (u .entry)) word) word (now (buffer .entry)) note (now (buffer .exit)) r ⌝ }
 {
     if word < 0x1000_0000_0000_0000 {

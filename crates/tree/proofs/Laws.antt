@@ -24,5 +24,7 @@ pub use Rattle.tree.proofs.Tables.{AllUnder, AllFrom, Good, page-inject
 pub use Rattle.tree.proofs.Accept.{records-of-set, items-of-set, table-accepted, Accepted, accepted-table}
 -- the table of a set is bytes
 pub use Rattle.tree.proofs.TableBytes.{table-bytes}
+-- and no longer than that of the set with more records at its end
+pub use Rattle.tree.proofs.Growing.{table-grows}
 -- the places of values are where they stand
 pub use Rattle.tree.proofs.PlaceLaws.{Stand, stand-length, places-stand}

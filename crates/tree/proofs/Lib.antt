@@ -8,6 +8,7 @@ pub mod Shape
 pub mod Tables
 pub mod Accept
 pub mod TableBytes
+pub mod Growing
 pub mod PlaceLaws
 pub mod Laws
 pub mod Rows

@@ -1,5 +1,5 @@
 // The writer: the table of a row of records. The functions are for the crates above and no public calls.
-pub mod pages; // the recursion over the pages
+mod pages; // the recursion over the pages
 pub mod output; // outputs
 
 use crate::output::clear;

@@ -29,23 +29,23 @@ pub struct Wrote {
 }
 
 // The same of a gap, whether it has a page, and that page's digest.
-pub struct Below {
-    pub room: bool,
-    pub linked: bool,
-    pub len: usize,
-    pub digest: [u8; 32],
+struct Below {
+    room: bool,
+    linked: bool,
+    len: usize,
+    digest: [u8; 32],
 }
 
 // An entry's length, and that of its key, which is held.
-pub struct Added {
-    pub len: usize,
-    pub held: usize,
+struct Added {
+    len: usize,
+    held: usize,
 }
 
 // A page's length and the number of its entries.
-pub struct Size {
-    pub own: usize,
-    pub count: usize,
+struct Size {
+    own: usize,
+    count: usize,
 }
 
 fn layer_in(word: u64) -> usize

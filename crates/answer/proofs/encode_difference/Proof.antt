@@ -1,6 +1,6 @@
 use mathlib.Core.Path.{subst}
 use native.Mathlib.Omega.{arith}
-use Rattle.answer.specs.Answer.{LengthFits}
+use Rattle.answer.specs.Inner.{LengthFits}
 use borrow.Author.Needs.{needs}
 use Rattle.answer.proofs.encode_difference.Statement.{statement}
 use Rattle.answer.proofs.encode_difference.Tie as tie

@@ -1,8 +1,5 @@
 use borrow.Author.Needs.{needs}
-use mathlib.Core.Path.{sym}
-use native.Mathlib.Omega.{arith}
-use lib.Seq.{length-take-le}
-use Rattle.listing.proofs.Verdicts.{wrote-within}
+use Rattle.listing.proofs.Verdicts.{lists-input}
 use Rattle.listing.proofs.main.Statement.{statement}
 use Rattle.listing.proofs.main.Tie as tie
 
@@ -21,41 +18,29 @@ output-requires c κs = search needs
 array-share-prefix-lent : tie.Need-array-share-prefix-lent
 array-share-prefix-lent c = search needs
 
-slice-aggregate-write-listing : tie.Need-slice-aggregate-write-listing
-slice-aggregate-write-listing c = search needs
+slice-aggregate-list-input : tie.Need-slice-aggregate-list-input
+slice-aggregate-list-input c = search needs
 
-slice-aggregate-write-listing-2 : tie.Need-slice-aggregate-write-listing-2
-slice-aggregate-write-listing-2 c = search needs
+list-input-requires : tie.Need-list-input-requires
+list-input-requires c κs = search needs
 
-write-listing-requires : tie.Need-write-listing-requires
-write-listing-requires c κs = search needs
-
-enum-known-length : tie.Need-enum-known-length
-enum-known-length c = search needs
+slice-aggregate-print-listing : tie.Need-slice-aggregate-print-listing
+slice-aggregate-print-listing c = search needs
 
 array-share-prefix-out : tie.Need-array-share-prefix-out
-array-share-prefix-out c =
-    let w = c .before .before .before .before .write-listing in
-    let h = wrote-within (w .last .1 .0) _ (w .result) _ (w .ensures) (c .before .length .given .1) in
-    omega arith
+array-share-prefix-out c = search needs
 
-slice-aggregate-write-all : tie.Need-slice-aggregate-write-all
-slice-aggregate-write-all c =
-    let w = c .before .before .before .before .before .write-listing in
-    let h = wrote-within (w .last .1 .0) _ (w .result) _ (w .ensures) (c .before .before .length .given .1) in
-    sym (length-take-le _ (w .last .1 .0) h)
+slice-aggregate-print-listing-2 : tie.Need-slice-aggregate-print-listing-2
+slice-aggregate-print-listing-2 c = search needs
 
-write-all-requires : tie.Need-write-all-requires
-write-all-requires c κs = search needs
-
-enum-told : tie.Need-enum-told
-enum-told c = search needs
+print-listing-requires : tie.Need-print-listing-requires
+print-listing-requires c κs =
+    let r = c .before .before .before .before .before .before .before .read-full in
+    let l = c .before .before .list-input in
+    lists-input (r .last .1 .0) (l .last .1 .0) (r .result) (l .result) (search needs) (l .ensures .1)
 
 returns : tie.Need-returns
 returns c = search needs
-
-returns-2 : tie.Need-returns-2
-returns-2 c = search needs
 
 pub main-spec : {M : Type 1} → statement M
 main-spec =
@@ -66,13 +51,10 @@ main-spec =
     read-full-requires
     output-requires
     array-share-prefix-lent
-    slice-aggregate-write-listing
-    slice-aggregate-write-listing-2
-    write-listing-requires
-    enum-known-length
+    slice-aggregate-list-input
+    list-input-requires
+    slice-aggregate-print-listing
     array-share-prefix-out
-    slice-aggregate-write-all
-    write-all-requires
-    enum-told
-    returns
-    returns-2)
+    slice-aggregate-print-listing-2
+    print-listing-requires
+    returns)

@@ -1,7 +1,7 @@
 use borrow.Author.Needs.{needs}
 use mathlib.Core.Path.{sym, subst}
-use Rattle.answer.specs.Answer.{LengthFits}
-use Rattle.register.proofs.Differing.{length-fits}
+use Rattle.answer.specs.Inner.{LengthFits}
+use Rattle.promises.proofs.Promises.{difference-short}
 use Rattle.mijdegen.proofs.mijdegen_difference.Statement.{statement}
 use Rattle.mijdegen.proofs.mijdegen_difference.Tie as tie
 
@@ -9,7 +9,7 @@ difference-requires : tie.Need-difference-requires
 difference-requires c κs = search needs
 
 encode-difference-requires : tie.Need-encode-difference-requires
-encode-difference-requires c κs = subst LengthFits (sym (c .before .before .difference .ensures .0)) (length-fits _ _ _)
+encode-difference-requires c κs = subst LengthFits (sym (c .before .before .difference .ensures .0)) (difference-short _ _ _)
 
 same-length : tie.Need-same-length
 same-length c = search needs

@@ -1,0 +1,125 @@
+-- The order of checks: when a call is done, and when each number is given.
+use Prim.Native.Nat.{ℕ, _-_, _<_, _≤_}
+use mathlib.Core.Path.{_≡_}
+use mathlib.Core.Bool.{true, false, cond}
+use mathlib.Core.Logic.{_⊎_}
+use mathlib.Core.Option.{Option, none, some}
+use mathlib.Core.List.{List, [], _∷_, _++_}
+use lib.ListN.{length, take, drop}
+use Rattle.answer.specs.Answer.{numberOf, refusedWith, doneWith}
+use Rattle.answer.specs.declared.Refusal.{Refusal}
+use Rattle.fips180.specs.Hash.{zeros}
+use Rattle.key.specs.Key.{lawful}
+use Rattle.tree.specs.Record.{Record, records}
+use Rattle.tree.specs.Table.{SpeltTree, tableOf}
+use Rattle.tree.specs.Judge.{equal, rising, refused, accepted, judge}
+use Rattle.promises.specs.Map.{find, greaterFound, onlyInSecond}
+use Rattle.promises.specs.Pages.{pagesOf, openedPages, inPages}
+use Rattle.promises.specs.Register.{RegisterOf}
+use Rattle.promises.specs.Reply.{Output, Reply}
+
+-- ---- the steps
+abbrev pub AllZero : List Output → Type 0
+AllZero [] = Unit {0}
+AllZero (out ∷ outs) = (out .bytes ≡ zeros (out .room)) × AllZero outs
+
+-- A refusal answers its number alone, and every output is wholly zero.
+pub record Refuses (reply : Reply) (n : ℕ) : Type 0 where
+  pub answer : reply .answer ≡ refusedWith n
+  pub outputs : AllZero (reply .outputs)
+
+-- A register is refused with the first of 1 to 10 that is due on it; otherwise the call goes on with the tree that its pages spell.
+pub record Judged (s : List ℕ) (reply : Reply) (goesOn : SpeltTree → Type 0) : Type 0 where
+  pub refuses : (r : Refusal) → judge s ≡ refused r → Refuses reply (numberOf r)
+  pub accepts : (t : SpeltTree) → judge s ≡ accepted t → goesOn t
+
+-- Where the rule is broken the call is refused with this number; otherwise it goes on.
+pub record Check (reply : Reply) (n : ℕ) (broken goesOn : Type 0) : Type 0 where
+  pub refuses : broken → Refuses reply n
+  pub passes : (broken → ⊥) → goesOn
+
+-- An output that begins with these bytes, with zeros after them.
+abbrev pub filled : ℕ → List ℕ → Output
+filled room bytes = record { room = room; bytes = bytes ++ zeros (room - length bytes) }
+
+-- The register of a set is written, and its length is answered, with the other values of the call after it.
+pub record Writes (reply : Reply) (room : ℕ) (others : List ℕ) (rs : List Record) : Type 0 where
+  pub register : RegisterOf (tableOf rs) rs
+  pub answer : reply .answer ≡ doneWith (length (tableOf rs) ∷ others)
+  pub outputs : reply .outputs ≡ filled room (tableOf rs) ∷ []
+
+-- The set that results is known by what each key finds in it. Last come the resulting count and the output.
+pub record ResultFinds (reply : Reply) (room : ℕ) (others : List ℕ) (finds : List ℕ → Option (List ℕ)) : Type 0 where
+  pub result : List Record
+  pub inOrder : rising result ≡ true
+  pub found : (key : List ℕ) → find key result ≡ finds key
+  pub last :
+      Check reply 5 (4096 < length result)
+      (Check reply 13 ((room < length (tableOf result)) ⊎ (4194304 < length (tableOf result)))
+      (Writes reply room others result))
+
+-- ---- the calls
+-- Check answers the record count.
+abbrev pub CheckOrder : List ℕ → Reply → Type 0
+CheckOrder s reply = Judged s reply (λ t. reply .answer ≡ doneWith (length (records t) ∷ []))
+
+-- Lookup: the key argument, then absence. It answers the place where the 32 bytes of the value begin.
+abbrev pub LookupOrder : List ℕ → List ℕ → Reply → Type 0
+LookupOrder s k reply =
+    Judged s reply (λ t.
+    Check reply 7 (lawful k ≡ false)
+    (Check reply 12 (find k (records t) ≡ none)
+    ((v : List ℕ) → find k (records t) ≡ some v
+    → (place : ℕ) × (reply .answer ≡ doneWith (place ∷ [])) × (take 32 (drop place s) ≡ v))))
+
+-- List: from the count on it is past the end, which is answered as 0, and the outputs are zero. Otherwise it gives the record that n others come
+-- before: its key's length is answered, key and value are written, and 13 is due where the key is longer than the output.
+pub record GivesNth (n room : ℕ) (reply : Reply) (rs : List Record) : Type 0 where
+  pub past : length rs ≤ n → (reply .answer ≡ doneWith (0 ∷ [])) × AllZero (reply .outputs)
+  pub given : (before later : List Record) (r : Record) → rs ≡ before ++ (r ∷ later) → length before ≡ n
+      → Check reply 13 (room < length (r .key))
+      ((reply .answer ≡ doneWith (length (r .key) ∷ []))
+      × (reply .outputs ≡ filled room (r .key) ∷ record { room = 32; bytes = r .val } ∷ []))
+
+abbrev pub ListOrder : List ℕ → ℕ → ℕ → Reply → Type 0
+ListOrder s n room reply = Judged s reply (λ t. GivesNth n room reply (records t))
+
+-- Put: the key argument, then the value. Afterwards the key finds the value, and every other key what it found before.
+abbrev pub PutOrder : List ℕ → List ℕ → List ℕ → ℕ → Reply → Type 0
+PutOrder s k v room reply =
+    Judged s reply (λ t.
+    Check reply 7 (lawful k ≡ false)
+    (Check reply 11 (length v ≡ 32 → ⊥)
+    (ResultFinds reply room [] (λ key. cond (equal key k) (some v) (find key (records t))))))
+
+-- Join: the same, but the key finds the greater of what it found before and the value.
+abbrev pub JoinOrder : List ℕ → List ℕ → List ℕ → ℕ → Reply → Type 0
+JoinOrder s k v room reply =
+    Judged s reply (λ t.
+    Check reply 7 (lawful k ≡ false)
+    (Check reply 11 (length v ≡ 32 → ⊥)
+    (ResultFinds reply room [] (λ key. cond (equal key k) (greaterFound (find key (records t)) (some v)) (find key (records t))))))
+
+-- Remove: the key argument, then absence. Afterwards the key finds nothing, and every other key what it found before.
+abbrev pub RemoveOrder : List ℕ → List ℕ → ℕ → Reply → Type 0
+RemoveOrder s k room reply =
+    Judged s reply (λ t.
+    Check reply 7 (lawful k ≡ false)
+    (Check reply 12 (find k (records t) ≡ none)
+    (ResultFinds reply room [] (λ key. cond (equal key k) none (find key (records t))))))
+
+-- Merge: the first register is judged through before the second. Afterwards each key finds the greater of what it found in the two.
+abbrev pub MergeOrder : List ℕ → List ℕ → ℕ → Reply → Type 0
+MergeOrder s u room reply =
+    Judged s reply (λ t.
+    Judged u reply (λ w.
+    ResultFinds reply room [] (λ key. greaterFound (find key (records t)) (find key (records w)))))
+
+-- Difference: the same two registers. In the result each key finds what it finds in the opened pages of the second and not in the first. The
+-- number of opened pages is answered after the length.
+abbrev pub DifferenceOrder : List ℕ → List ℕ → ℕ → Reply → Type 0
+DifferenceOrder s u room reply =
+    Judged s reply (λ t.
+    Judged u reply (λ w.
+    ResultFinds reply room (length (openedPages (pagesOf t) w) ∷ [])
+    (λ key. onlyInSecond (find key (records t)) (find key (inPages (openedPages (pagesOf t) w))))))

@@ -1,0 +1,95 @@
+-- The pages of a register: those that another register knows, those that are opened, and the records in them.
+use Prim.Native.Nat.{ℕ}
+use mathlib.Core.Bool.{Bool, true, false, cond, not, _&&_, _||_}
+use mathlib.Core.List.{List, [], _∷_, _++_}
+use Rattle.fips180.specs.Hash.{sha256}
+use Rattle.tree.specs.Tree.{page, Gap, empty, under, Entries, end, entry}
+use Rattle.tree.specs.Record.{Record, Spelt, recordOf}
+use Rattle.tree.specs.Table.{SpeltTree, bytesOfPage}
+use Rattle.tree.specs.Judge.{equal}
+use Rattle.promises.specs.Map.{put}
+
+-- The bytes of a register's pages, in table order.
+unfoldable mutual
+  pub pagesOf : SpeltTree → List (List ℕ)
+  pagesOf (page g es) = bytesOfPage (page g es) ∷ (pagesUnder g ++ pagesFrom es)
+
+  pub pagesUnder : Gap Spelt (List ℕ) → List (List ℕ)
+  pagesUnder empty = []
+  pagesUnder (under digest p) = pagesOf p
+
+  pub pagesFrom : Entries Spelt (List ℕ) → List (List ℕ)
+  pagesFrom end = []
+  pagesFrom (entry e g es) = pagesUnder g ++ pagesFrom es
+
+-- A page of the second is known when its digest is that of some page of the first; `first` is the first's pages.
+unfoldable pub known : List (List ℕ) → List ℕ → Bool
+known [] p = false
+known (q ∷ qs) p = equal (sha256 p) (sha256 q) || known qs p
+
+-- A page in its tree: the page with all that is under it, and the pages above it, the nearest first.
+pub record Located : Type 0 where
+  pub here : SpeltTree
+  pub above : List SpeltTree
+
+-- All pages of a tree, in table order; `above` are the pages above its root.
+unfoldable mutual
+  pub located : List SpeltTree → SpeltTree → List Located
+  located above (page g es) =
+      let path : List SpeltTree = page g es ∷ above in
+      record { here = page g es; above = above } ∷ (locatedUnder path g ++ locatedFrom path es)
+
+  pub locatedUnder : List SpeltTree → Gap Spelt (List ℕ) → List Located
+  locatedUnder above empty = []
+  locatedUnder above (under digest p) = located above p
+
+  pub locatedFrom : List SpeltTree → Entries Spelt (List ℕ) → List Located
+  locatedFrom above end = []
+  locatedFrom above (entry e g es) = locatedUnder above g ++ locatedFrom above es
+
+-- A page is opened when neither it nor a page above it is known.
+unfoldable pub noneKnown : List (List ℕ) → List SpeltTree → Bool
+noneKnown first [] = true
+noneKnown first (p ∷ ps) = not (known first (bytesOfPage p)) && noneKnown first ps
+
+unfoldable pub isOpened : List (List ℕ) → Located → Bool
+isOpened first p = noneKnown first (p .here ∷ p .above)
+
+unfoldable pub openedAmong : List (List ℕ) → List Located → List SpeltTree
+openedAmong first [] = []
+openedAmong first (p ∷ ps) =
+    let later : List SpeltTree = openedAmong first ps in
+    cond (isOpened first p) (p .here ∷ later) later
+
+-- The opened pages of the second, in table order.
+unfoldable pub openedPages : List (List ℕ) → SpeltTree → List SpeltTree
+openedPages first second = openedAmong first (located [] second)
+
+-- The pages that a page links to, in table order.
+unfoldable pub linkedUnder : Gap Spelt (List ℕ) → List SpeltTree
+linkedUnder empty = []
+linkedUnder (under digest p) = p ∷ []
+
+unfoldable pub linkedFrom : Entries Spelt (List ℕ) → List SpeltTree
+linkedFrom end = []
+linkedFrom (entry e g es) = linkedUnder g ++ linkedFrom es
+
+unfoldable pub linkedPages : SpeltTree → List SpeltTree
+linkedPages (page g es) = linkedUnder g ++ linkedFrom es
+
+-- The records in a page itself, without those under its links; `before` is the key before in the page.
+unfoldable pub inEntries : List ℕ → Entries Spelt (List ℕ) → List Record
+inEntries before end = []
+inEntries before (entry e g es) = recordOf before e ∷ inEntries (recordOf before e .key) es
+
+unfoldable pub inPage : SpeltTree → List Record
+inPage (page g es) = inEntries [] es
+
+-- The records in these pages, in key order: each is put into its place.
+unfoldable pub putAll : List Record → List Record → List Record
+putAll [] m = m
+putAll (r ∷ rs) m = put r (putAll rs m)
+
+unfoldable pub inPages : List SpeltTree → List Record
+inPages [] = []
+inPages (p ∷ ps) = putAll (inPage p) (inPages ps)

@@ -1,0 +1,52 @@
+-- What a caller has after a call.
+use Prim.Native.Nat.{ℕ}
+use mathlib.Core.List.{List, [], _∷_}
+use Rattle.answer.specs.Answer.{Said, said, saidOfDifference}
+use Rattle.promises.specs.Outcome.{checkAnswer, lookupAnswer, listOutcome, listAnswer, listKey, listValue, Outcome, putOutcome, joinOutcome, removeOutcome, mergeOutcome, answerOf, outputOf}
+use Rattle.promises.specs.Difference.{differenceOutcome, differenceAnswer, differenceOutput}
+
+-- An output: its length, and the bytes that stand in it after the call.
+pub record Output : Type 0 where
+  pub room : ℕ
+  pub bytes : List ℕ
+
+-- What a call answered, and its outputs.
+pub record Reply : Type 0 where
+  pub answer : Said
+  pub outputs : List Output
+
+-- The reply of each call; the contracts state the same answers and outputs.
+abbrev pub checkReply : List ℕ → Reply
+checkReply s = record { answer = said (checkAnswer s); outputs = [] }
+
+abbrev pub lookupReply : List ℕ → List ℕ → Reply
+lookupReply s k = record { answer = said (lookupAnswer s k); outputs = [] }
+
+abbrev pub listReply : List ℕ → ℕ → ℕ → Reply
+listReply s n room =
+    let o = listOutcome s n room in
+    record {
+      answer = said (listAnswer o);
+      outputs = record { room = room; bytes = listKey o room } ∷ record { room = 32; bytes = listValue o } ∷ [];
+    }
+
+abbrev pub writingReply : Outcome → ℕ → Reply
+writingReply o room =
+    record { answer = said (answerOf o); outputs = record { room = room; bytes = outputOf o room } ∷ [] }
+
+abbrev pub putReply : List ℕ → List ℕ → List ℕ → ℕ → Reply
+putReply s k v room = writingReply (putOutcome s k v room) room
+
+abbrev pub joinReply : List ℕ → List ℕ → List ℕ → ℕ → Reply
+joinReply s k v room = writingReply (joinOutcome s k v room) room
+
+abbrev pub removeReply : List ℕ → List ℕ → ℕ → Reply
+removeReply s k room = writingReply (removeOutcome s k room) room
+
+abbrev pub mergeReply : List ℕ → List ℕ → ℕ → Reply
+mergeReply s u room = writingReply (mergeOutcome s u room) room
+
+abbrev pub differenceReply : List ℕ → List ℕ → ℕ → Reply
+differenceReply s u room =
+    let d = differenceOutcome s u room in
+    record { answer = saidOfDifference (differenceAnswer d); outputs = record { room = room; bytes = differenceOutput d room } ∷ [] }
