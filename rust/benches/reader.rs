@@ -6,6 +6,7 @@ mod common;
 mod subject;
 mod timing;
 
+use common::neighbours::{Neighbour, NEIGHBOURS};
 use std::hint::black_box;
 use subject::Subject;
 use timing::best_times;
@@ -31,6 +32,14 @@ fn list(subject: &Subject) {
     black_box(out);
 }
 
+/// Gives the record beside the key in the middle.
+fn beside(subject: &Subject, call: Neighbour, key: &[u8]) {
+    let mut out = [0; 256];
+    let register = black_box(&subject.register);
+    black_box(call.safe(register, key, &mut out)).expect("a record");
+    black_box(out);
+}
+
 fn main() {
     let subjects = Subject::all();
 
@@ -44,6 +53,9 @@ fn main() {
     let key = ordinary.middle_key();
     owned.push(Box::new(|| lookup(ordinary, key)));
     owned.push(Box::new(|| list(ordinary)));
+    for call in NEIGHBOURS {
+        owned.push(Box::new(move || beside(ordinary, call, key)));
+    }
     let mut tasks: Vec<&mut dyn FnMut()> = Vec::new();
     for task in &mut owned {
         tasks.push(task.as_mut());
@@ -91,7 +103,8 @@ fn main() {
 
     println!("\nThe other calls on the register of ordinary records, in microseconds, and beside");
     println!("hash-once:\n");
-    for (name, time) in ["lookup", "list"].iter().zip(&times[9..]) {
+    let names = ["lookup", "list", "at_or_after", "before"];
+    for (name, time) in names.iter().zip(&times[9..]) {
         println!("{:<31} {:>8.1} {:>8.2}", name, time * 1e6, time / times[1]);
     }
 }

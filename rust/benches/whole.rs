@@ -1,6 +1,6 @@
-//! The times of all ten calls on ordinary records, beside the independent crate and beside what
-//! the calls cannot do without: hashing each page and each key of the lent registers once. Also
-//! the difference of two full registers that are nearly the same, and of two with nothing in
+//! The times of all thirteen calls on ordinary records, beside the independent crate and beside
+//! what the calls cannot do without: hashing each page and each key of the lent registers once.
+//! Also the difference of two full registers that are nearly the same, and of two with nothing in
 //! common, beside their targets.
 
 #[path = "../tests/common/mod.rs"]
@@ -8,6 +8,7 @@ mod common;
 mod subject;
 mod timing;
 
+use common::neighbours::Neighbour;
 use common::sets::{part, set, Kind};
 use common::writes::{length_in, Call};
 use independent::Set;
@@ -17,7 +18,7 @@ use subject::Subject;
 use timing::best_times_within;
 
 /// The time for the samples of one task. The whole run stays under two minutes.
-const EACH: Duration = Duration::from_millis(700);
+const EACH: Duration = Duration::from_millis(600);
 
 /// A call, by the library and by the independent crate, and the hashing it cannot do without.
 struct Case<'a> {
@@ -113,8 +114,9 @@ impl Lent {
     }
 }
 
-/// All ten calls. Put is lent the register without the middle record, merge two of half as many
-/// records, difference the one without the middle record and the whole one, the others the whole.
+/// All thirteen calls. Put is lent the register without the middle record, merge two of half as
+/// many records, difference the one without the middle record and the whole one, the others the
+/// whole. A run is of all records, and of 8 around the middle one.
 fn all_calls<'a>(whole: &'a Subject, lent: &'a [[&'a Subject; 2]; 4]) -> Vec<Case<'a>> {
     let register = &whole.register[..];
     let key = whole.middle_key();
@@ -127,6 +129,8 @@ fn all_calls<'a>(whole: &'a Subject, lent: &'a [[&'a Subject; 2]; 4]) -> Vec<Cas
     let (mut key_out, mut other_key_out, mut value_out) = ([0; 256], [0; 256], [0; 32]);
     let [put, one, merge, difference] = lent;
     let second = |pair: &[&Subject; 2]| pair[1].register.clone();
+    let keys: Vec<&[u8]> = whole.set.keys().map(Vec::as_slice).collect();
+    let run = |from: usize, to: usize| Call::run(keys[from], keys[to]);
     vec![
         Case::new(
             "digest",
@@ -161,6 +165,10 @@ fn all_calls<'a>(whole: &'a Subject, lent: &'a [[&'a Subject; 2]; 4]) -> Vec<Cas
             },
             hash_once,
         ),
+        beside("at_or_after", Neighbour::AtOrAfter, whole),
+        beside("before", Neighbour::Before, whole),
+        Case::write("run of all", &one[..1], run(0, whole.set.len() - 1)),
+        Case::write("run of 8 records", &one[..1], run(middle - 4, middle + 3)),
         Case::write("put", &put[..1], Call::put(key, value)),
         Case::write("join", &one[..1], Call::join(key, &[0xff; 32])),
         Case::write("remove", &one[..1], Call::remove(key)),
@@ -171,6 +179,21 @@ fn all_calls<'a>(whole: &'a Subject, lent: &'a [[&'a Subject; 2]; 4]) -> Vec<Cas
             Call::difference(&second(difference)),
         ),
     ]
+}
+
+/// The call that gives the record beside the middle key.
+fn beside<'a>(name: &'static str, call: Neighbour, whole: &'a Subject) -> Case<'a> {
+    let (register, key) = (&whole.register[..], whole.middle_key());
+    let (mut out, mut other_out, mut value) = ([0; 256], [0; 256], [0; 32]);
+    Case::new(
+        name,
+        move || call.safe(black_box(register), black_box(key), &mut out),
+        move || {
+            let (register, key) = (black_box(register), black_box(key));
+            call.independent(register, key, &mut other_out, &mut value)
+        },
+        || whole.hash_once(),
+    )
 }
 
 /// Gives two sets of 4,096 records each: with all but 10 in common, and with none.
@@ -202,7 +225,8 @@ fn main() {
         "lent registers; for digest and layer, of the input, which is the register. Put gives"
     );
     println!("so many records and merge joins two halves of them. Difference is of the register");
-    println!("without one record and the whole one. Outputs are just long enough.\n");
+    println!("without one record and the whole one. At_or_after and before are of the middle key.");
+    println!("Outputs are just long enough.\n");
     println!(
         "{:>7}  {:<24} {:>9} {:>9} {:>12} {:>10} {:>12}",
         "records", "call", "library", "hash-once", "independent", "/hash-once", "/independent"

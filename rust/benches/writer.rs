@@ -6,7 +6,7 @@ mod common;
 mod subject;
 mod timing;
 
-use common::sets::{of_layer, part, Kind};
+use common::sets::{greatest_key, least_key, of_layer, part, Kind};
 use common::writes::Call;
 use independent::{table, Set};
 use std::hint::black_box;
@@ -40,8 +40,8 @@ impl Case {
         }
     }
 
-    /// The four calls, all but remove with the subject as their result.
-    fn all(number: usize, subject: &Subject) -> [Case; 4] {
+    /// Five calls, all but remove with the subject as their result.
+    fn all(number: usize, subject: &Subject) -> [Case; 5] {
         let set = &subject.set;
         let key = subject.middle_key();
         let mut without = set.clone();
@@ -56,7 +56,9 @@ impl Case {
         };
         let (first, second) = (part(set, wanted), part(set, |n| !wanted(n)));
         assert_eq!((first.len(), second.len()), (2_048, 2_048));
+        let (least, greatest) = (least_key(), greatest_key());
         [
+            Case::new(number, "run", set, Call::run(&least, &greatest), set),
             Case::new(number, "put", &without, Call::put(key, &set[key]), set),
             Case::new(number, "join", set, Call::join(key, &[0xff; 32]), &greater),
             Case::new(number, "remove", set, Call::remove(key), &without),
@@ -107,10 +109,13 @@ fn main() {
 
     println!("Times of one call in microseconds, best of many samples, all taken in turn.");
     println!("Hash-once is the library's digest of each page and each key, once each, of the");
-    println!("register of 4,096 records: that which put and merge give, and join and remove take.");
-    println!("A merge is of two registers of 2,048 records with no key in common. The output is");
-    println!("just long enough. The last two columns are the library's nanoseconds for each byte");
-    println!("of the result, and these beside the same call on ordinary records.\n");
+    println!("register of 4,096 records: that which put and merge give, and run, join and remove");
+    println!("take. A run is of the whole register. A merge is of two registers of 2,048 records");
+    println!("with no key in common. The output is just long enough. The last two columns are the");
+    println!(
+        "library's nanoseconds for each byte of the result, and these beside the same call on"
+    );
+    println!("ordinary records.\n");
     println!(
         "{:<31} {:<26} {:>7} {:>9} {:>9} {:>12} {:>10} {:>12} {:>8} {:>9}",
         "register",
@@ -131,7 +136,7 @@ fn main() {
         let ordinary = cases
             .iter()
             .position(|other| case.name.starts_with(other.name));
-        let ordinary = ordinary.expect("the first cases are the four calls");
+        let ordinary = ordinary.expect("the first cases are the five calls");
         println!(
             "{:<31} {:<26} {:>7} {:>9.1} {:>9.1} {:>12.1} {:>10.2} {:>12.2} {:>8.2} {:>9.2}",
             subjects[case.subject].name,

@@ -58,10 +58,13 @@ enum mijdegen_refusal {
     MIJDEGEN_WRONG_DIGEST = 10,
     /* A value argument is not 32 bytes. */
     MIJDEGEN_VALUE_LENGTH = 11,
-    /* The key is absent, for lookup and remove. */
+    /* The key is absent, for lookup and remove; no record lies at or after the key, for
+     * at_or_after, or before it, for before. */
     MIJDEGEN_KEY_ABSENT = 12,
     /* The result is longer than the output, or than 4,194,304 bytes. */
-    MIJDEGEN_NO_ROOM = 13
+    MIJDEGEN_NO_ROOM = 13,
+    /* The first key is greater than the last. */
+    MIJDEGEN_FIRST_AFTER_LAST = 14
 };
 
 /* The number of an answer: 0, or one of enum mijdegen_refusal. */
@@ -130,7 +133,31 @@ uint64_t mijdegen_list(const uint8_t *reg, size_t reg_len, uint64_t n, uint8_t *
                        size_t out_len, uint8_t value[MIJDEGEN_DIGEST_LENGTH]);
 
 /*
- * The five functions below write a register. Its table stands at the start of out, with zeros
+ * Gives the first record at or after the key: the key's own record where there is one, and else
+ * the one with the next greater key. The key may be any lawful key, present or not. The record's
+ * key is written to out, with zeros after it up to out_len bytes, and its value to the 32 bytes at
+ * value.
+ *
+ * The number of the answer is 0 and its value is the length of the record's key, from 3 to
+ * MIJDEGEN_LONGEST_KEY. Otherwise the answer is the number of mijdegen_check for a refused
+ * register; then MIJDEGEN_UNLAWFUL_KEY where the key breaks the key rule; then
+ * MIJDEGEN_KEY_ABSENT where no record lies at or after the key; then MIJDEGEN_NO_ROOM where the
+ * record's key is longer than out_len. On refusal out and value are zeros.
+ */
+uint64_t mijdegen_at_or_after(const uint8_t *reg, size_t reg_len, const uint8_t *key,
+                              size_t key_len, uint8_t *out, size_t out_len,
+                              uint8_t value[MIJDEGEN_DIGEST_LENGTH]);
+
+/*
+ * Gives the last record before the key, whether a record has the key itself or not. It is written
+ * and answered as by mijdegen_at_or_after, with the same numbers in the same order:
+ * MIJDEGEN_KEY_ABSENT where no record lies before the key.
+ */
+uint64_t mijdegen_before(const uint8_t *reg, size_t reg_len, const uint8_t *key, size_t key_len,
+                         uint8_t *out, size_t out_len, uint8_t value[MIJDEGEN_DIGEST_LENGTH]);
+
+/*
+ * The six functions below write a register. Its table stands at the start of out, with zeros
  * after it up to out_len bytes. The number of the answer is 0 and its value is the length of the
  * table; that of mijdegen_difference holds more.
  *
@@ -138,7 +165,9 @@ uint64_t mijdegen_list(const uint8_t *reg, size_t reg_len, uint64_t n, uint8_t *
  *
  *   - the number of mijdegen_check for the first register, 1 to 10;
  *   - that for the second register, 1 to 10;
- *   - MIJDEGEN_UNLAWFUL_KEY where the key breaks the key rule;
+ *   - MIJDEGEN_UNLAWFUL_KEY where the key breaks the key rule; of two keys the first is judged
+ *     before the last;
+ *   - MIJDEGEN_FIRST_AFTER_LAST where the first key is greater than the last;
  *   - MIJDEGEN_VALUE_LENGTH where value_len is not MIJDEGEN_DIGEST_LENGTH;
  *   - MIJDEGEN_KEY_ABSENT where no record has the key to be removed;
  *   - MIJDEGEN_TOO_MANY_RECORDS where the result has more than 4,096 records;
@@ -148,6 +177,14 @@ uint64_t mijdegen_list(const uint8_t *reg, size_t reg_len, uint64_t n, uint8_t *
  * written and may share bytes with each other. No byte of out may be a byte of an input: to change
  * a register, write the next one to another buffer.
  */
+
+/*
+ * Writes the register of the records from the first key up to and including the last. The keys may
+ * be any lawful keys, present or not. Equal keys give the register of the key's record alone, and
+ * where no record lies between the keys the result is the empty register.
+ */
+uint64_t mijdegen_run(const uint8_t *reg, size_t reg_len, const uint8_t *first, size_t first_len,
+                      const uint8_t *last, size_t last_len, uint8_t *out, size_t out_len);
 
 /*
  * Gives the key the value, whether a record has the key already or not.

@@ -6,9 +6,9 @@
 //! # Costs
 //!
 //! Each call that takes a register judges it whole, so its time grows with the register's length:
-//! each page and each key is hashed once. Going through a register of n records by [`list`] costs
-//! n such judgements, and n calls of [`lookup`] or [`put`] the same. A writing call hashes the
-//! pages that it writes as well.
+//! each page and each key is hashed once. Going through a register of n records by [`list`],
+//! [`at_or_after`] or [`before`] costs n such judgements, and n calls of [`lookup`] or [`put`] the
+//! same. A writing call hashes the pages that it writes as well.
 //!
 //! A call uses up to 512 KiB of stack and nothing else; threads may call at the same time.
 
@@ -22,13 +22,16 @@ mod refusal;
 #[allow(unsafe_code)]
 mod sys;
 
+use core::ops::RangeInclusive;
+
 pub use refusal::Refusal;
 
 /// The length in bytes of the longest register, and of the longest input that [`digest`] and
 /// [`layer`] take. No call that writes a register needs a longer output.
 pub const LONGEST: usize = 4_194_304;
 
-/// The length in bytes of the longest key. An output so long has room for each key of [`list`].
+/// The length in bytes of the longest key. An output so long has room for each key that [`list`],
+/// [`at_or_after`] and [`before`] give.
 pub const LONGEST_KEY: usize = 256;
 
 /// A SHA-256 digest.
@@ -161,7 +164,8 @@ pub fn lookup_place(register: &[u8], key: &[u8]) -> Result<usize, Refusal> {
     Ok(count(outcome(sys::lookup(register, key))?))
 }
 
-/// A record that [`list`] gives. Its key stands at the start of the output.
+/// A record that [`list`], [`at_or_after`] or [`before`] gives. Its key stands at the start of the
+/// output.
 #[derive(Clone, Copy, Debug, PartialEq, Eq)]
 pub struct Listed {
     /// The length of the key, from 3 to [`LONGEST_KEY`].
@@ -212,6 +216,166 @@ pub fn list(register: &[u8], n: usize, out: &mut [u8]) -> Result<Option<Listed>,
         return Ok(None);
     }
     Ok(Some(Listed { key_length, value }))
+}
+
+/// Gives the first record at or after the key: the key's own record where there is one, and else
+/// the one with the next greater key.
+///
+/// The key may be any lawful key, present or not. The record's key is written to the output, with
+/// zeros after it. On refusal the output is zero.
+///
+/// Each call judges the whole register again, as [`lookup`] does.
+///
+/// # Errors
+///
+/// One of the refusals 1 to 10 where [`check`] refuses the register; then
+/// [`Refusal::UnlawfulKey`] where the key breaks the key rule, [`Refusal::KeyAbsent`] where no
+/// record lies at or after the key, and [`Refusal::NoRoom`] where the record's key is longer than
+/// the output.
+///
+/// # Examples
+///
+/// ```
+/// use mijdegen::{at_or_after, put, Refusal, LONGEST_KEY};
+///
+/// let empty = b"\xa2\x61e\x80\x61l\xf6";
+/// let (mut one, mut two) = ([0; 64], [0; 200]);
+/// put(empty, b"a/b1", &[0x11; 32], &mut one)?;
+/// let length = put(&one, b"a/b30", &[0x33; 32], &mut two)?;
+/// let register = &two[..length];
+///
+/// let mut out = [0; LONGEST_KEY];
+/// let found = at_or_after(register, b"a/b2", &mut out)?;
+/// assert_eq!(out[..found.key_length], *b"a/b30");
+/// assert_eq!(found.value, [0x33; 32]);
+///
+/// // A present key is found itself.
+/// let found = at_or_after(register, b"a/b1", &mut out)?;
+/// assert_eq!(out[..found.key_length], *b"a/b1");
+/// assert_eq!(out[found.key_length..], [0; LONGEST_KEY - 4]);
+///
+/// // A key stands before every longer key that begins with it.
+/// assert_eq!(at_or_after(register, b"a/b3", &mut out)?.value, [0x33; 32]);
+/// assert_eq!(at_or_after(register, b"a/b301", &mut out), Err(Refusal::KeyAbsent));
+/// assert_eq!(out, [0; LONGEST_KEY]);
+///
+/// assert_eq!(at_or_after(register, b"a/b2", &mut out[..4]), Err(Refusal::NoRoom));
+/// assert_eq!(at_or_after(register, b"a/", &mut out), Err(Refusal::UnlawfulKey));
+/// # Ok::<(), Refusal>(())
+/// ```
+pub fn at_or_after(register: &[u8], key: &[u8], out: &mut [u8]) -> Result<Listed, Refusal> {
+    let mut value = [0; 32];
+    let key_length = count(outcome(sys::at_or_after(register, key, out, &mut value))?);
+    Ok(Listed { key_length, value })
+}
+
+/// Gives the last record before the key, whether a record has the key itself or not.
+///
+/// The key may be any lawful key, present or not. The output is written as by [`at_or_after`].
+///
+/// Each call judges the whole register again, as [`lookup`] does.
+///
+/// # Errors
+///
+/// One of the refusals 1 to 10 where [`check`] refuses the register; then
+/// [`Refusal::UnlawfulKey`] where the key breaks the key rule, [`Refusal::KeyAbsent`] where no
+/// record lies before the key, and [`Refusal::NoRoom`] where the record's key is longer than the
+/// output.
+///
+/// # Examples
+///
+/// ```
+/// use mijdegen::{before, put, Refusal, LONGEST_KEY};
+///
+/// let empty = b"\xa2\x61e\x80\x61l\xf6";
+/// let (mut one, mut two) = ([0; 64], [0; 200]);
+/// put(empty, b"a/b1", &[0x11; 32], &mut one)?;
+/// let length = put(&one, b"a/b30", &[0x33; 32], &mut two)?;
+/// let register = &two[..length];
+///
+/// let mut out = [0; LONGEST_KEY];
+/// let found = before(register, b"a/b4", &mut out)?;
+/// assert_eq!(out[..found.key_length], *b"a/b30");
+/// assert_eq!(found.value, [0x33; 32]);
+///
+/// // The record of a present key does not lie before it.
+/// let found = before(register, b"a/b30", &mut out)?;
+/// assert_eq!(out[..found.key_length], *b"a/b1");
+/// assert_eq!(out[found.key_length..], [0; LONGEST_KEY - 4]);
+///
+/// assert_eq!(before(register, b"a/b1", &mut out), Err(Refusal::KeyAbsent));
+/// assert_eq!(out, [0; LONGEST_KEY]);
+///
+/// assert_eq!(before(register, b"a/b4", &mut out[..4]), Err(Refusal::NoRoom));
+/// assert_eq!(before(register, b"a/", &mut out), Err(Refusal::UnlawfulKey));
+/// # Ok::<(), Refusal>(())
+/// ```
+pub fn before(register: &[u8], key: &[u8], out: &mut [u8]) -> Result<Listed, Refusal> {
+    let mut value = [0; 32];
+    let key_length = count(outcome(sys::before(register, key, out, &mut value))?);
+    Ok(Listed { key_length, value })
+}
+
+/// Writes the register of the records in a range of keys, `first..=last`: from the first key up to
+/// and including the last. Gives the length of its table.
+///
+/// The keys may be any lawful keys, present or not. Equal keys give the register of the key's
+/// record alone, and where no record lies in the range the result is the empty register. A range
+/// from a greater key to a lesser is refused, not empty. The output is written as by [`put`].
+///
+/// # Errors
+///
+/// One of the refusals 1 to 10 where [`check`] refuses the register; then
+/// [`Refusal::UnlawfulKey`] where the first key breaks the key rule, then where the last one does;
+/// then [`Refusal::FirstAfterLast`] where the first key is greater than the last, and
+/// [`Refusal::NoRoom`] where the result's table is longer than the output, or than [`LONGEST`]
+/// bytes.
+///
+/// # Examples
+///
+/// ```
+/// use mijdegen::{check, lookup, put, run, Refusal};
+///
+/// let empty = b"\xa2\x61e\x80\x61l\xf6";
+/// let (mut register, mut next) = (empty.to_vec(), vec![0; 300]);
+/// for (key, value) in [(b"a/b1", 0x11), (b"a/b2", 0x22), (b"a/b3", 0x33)] {
+///     let length = put(&register, key, &[value; 32], &mut next)?;
+///     register = next[..length].to_vec();
+/// }
+///
+/// // The record of the last key is included.
+/// let mut out = [0xaa; 300];
+/// let length = run(&register, b"a/b2"..=b"a/b3", &mut out)?;
+/// assert_eq!(check(&out[..length]), Ok(2));
+/// assert_eq!(lookup(&out[..length], b"a/b3"), Ok(&[0x33; 32]));
+/// assert!(out[length..].iter().all(|byte| *byte == 0));
+///
+/// // The keys need not be present.
+/// assert_eq!(run(&register, b"a/b11"..=b"a/b20", &mut out), Ok(64));
+/// assert_eq!(lookup(&out[..64], b"a/b2"), Ok(&[0x22; 32]));
+///
+/// // No record lies between these keys.
+/// assert_eq!(run(&register, b"a/b4"..=b"a/b5", &mut out), Ok(7));
+/// assert_eq!(out[..7], *empty);
+///
+/// let refused = run(&register, b"a/b3"..=b"a/b2", &mut out);
+/// assert_eq!(refused, Err(Refusal::FirstAfterLast));
+/// assert_eq!(out, [0; 300]);
+///
+/// let refused = run(&register, b"a/b2"..=b"a/b2", &mut out[..63]);
+/// assert_eq!(refused, Err(Refusal::NoRoom));
+///
+/// // Keys of unlike lengths are handed over as slices, or as text.
+/// assert_eq!(run(&register, "a/b1"..="a/b30", &mut out), run(&register, "a/b1"..="a/b3", &mut out));
+/// # Ok::<(), Refusal>(())
+/// ```
+pub fn run<K: AsRef<[u8]>>(
+    register: &[u8],
+    keys: RangeInclusive<K>,
+    out: &mut [u8],
+) -> Result<usize, Refusal> {
+    let (first, last) = (keys.start().as_ref(), keys.end().as_ref());
+    Ok(count(outcome(sys::run(register, first, last, out))?))
 }
 
 /// Writes the register in which the key has the value, whether a record has the key already or
@@ -452,7 +616,7 @@ mod tests {
     }
 
     #[test]
-    fn numbers_1_to_13_give_the_refusal() {
+    fn numbers_1_to_14_give_the_refusal() {
         let refusals = [
             Refusal::TooLong,
             Refusal::EndsEarly,
@@ -467,16 +631,17 @@ mod tests {
             Refusal::ValueLength,
             Refusal::KeyAbsent,
             Refusal::NoRoom,
+            Refusal::FirstAfterLast,
         ];
-        for (answer, refusal) in (1..=13).zip(refusals) {
+        for (answer, refusal) in (1..=14).zip(refusals) {
             assert_eq!(outcome(answer), Err(refusal));
         }
     }
 
     #[test]
-    #[should_panic(expected = "the library answered with the unknown number 14")]
-    fn number_14_panics() {
-        let _ = outcome(14);
+    #[should_panic(expected = "the library answered with the unknown number 15")]
+    fn number_15_panics() {
+        let _ = outcome(15);
     }
 
     #[test]

@@ -29,19 +29,22 @@ pub enum Refusal {
     WrongDigest = 10,
     /// A value argument is not 32 bytes.
     ValueLength = 11,
-    /// The key is absent, for `lookup` and `remove`.
+    /// The key is absent, for `lookup` and `remove`; no record lies at or after the key, for
+    /// `at_or_after`, or before it, for `before`.
     KeyAbsent = 12,
     /// The result is longer than the output, or than 4,194,304 bytes.
     NoRoom = 13,
+    /// The first key is greater than the last.
+    FirstAfterLast = 14,
 }
 
 impl Refusal {
-    /// Gives the number of the refusal, from 1 to 13.
+    /// Gives the number of the refusal, from 1 to 14.
     pub const fn number(self) -> u8 {
         self as u8
     }
 
-    /// Gives the refusal with this number, or none where the number is not from 1 to 13.
+    /// Gives the refusal with this number, or none where the number is not from 1 to 14.
     pub const fn from_number(number: u8) -> Option<Refusal> {
         Some(match number {
             1 => Refusal::TooLong,
@@ -57,6 +60,7 @@ impl Refusal {
             11 => Refusal::ValueLength,
             12 => Refusal::KeyAbsent,
             13 => Refusal::NoRoom,
+            14 => Refusal::FirstAfterLast,
             _ => return None,
         })
     }
@@ -76,8 +80,11 @@ impl fmt::Display for Refusal {
             Refusal::WrongTree => "the pages are not those that the rules give for the same keys",
             Refusal::WrongDigest => "a link's digest is not that of its page",
             Refusal::ValueLength => "a value is not 32 bytes",
-            Refusal::KeyAbsent => "the key is absent",
+            Refusal::KeyAbsent => {
+                "the key is absent, or no record lies at or after it, or before it"
+            }
             Refusal::NoRoom => "the result is longer than the output, or than 4,194,304 bytes",
+            Refusal::FirstAfterLast => "the first key is greater than the last",
         })
     }
 }

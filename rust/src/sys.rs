@@ -18,6 +18,34 @@ extern "C" {
         out_len: usize,
         value: *mut [u8; 32],
     ) -> u64;
+    fn mijdegen_at_or_after(
+        reg: *const u8,
+        reg_len: usize,
+        key: *const u8,
+        key_len: usize,
+        out: *mut u8,
+        out_len: usize,
+        value: *mut [u8; 32],
+    ) -> u64;
+    fn mijdegen_before(
+        reg: *const u8,
+        reg_len: usize,
+        key: *const u8,
+        key_len: usize,
+        out: *mut u8,
+        out_len: usize,
+        value: *mut [u8; 32],
+    ) -> u64;
+    fn mijdegen_run(
+        reg: *const u8,
+        reg_len: usize,
+        first: *const u8,
+        first_len: usize,
+        last: *const u8,
+        last_len: usize,
+        out: *mut u8,
+        out_len: usize,
+    ) -> u64;
     fn mijdegen_put(
         reg: *const u8,
         reg_len: usize,
@@ -108,6 +136,63 @@ pub(crate) fn list(register: &[u8], n: u64, out: &mut [u8], value: &mut [u8; 32]
             out.as_mut_ptr(),
             out.len(),
             value,
+        )
+    }
+}
+
+/// Writes the key and the value of the first record at or after the key, or zeros on refusal, and
+/// gives the answer that holds the length of the record's key.
+pub(crate) fn at_or_after(
+    register: &[u8],
+    key: &[u8],
+    out: &mut [u8],
+    value: &mut [u8; 32],
+) -> u64 {
+    // SAFETY: As for `list`, with two slices that are only read, so that they may share bytes.
+    unsafe {
+        mijdegen_at_or_after(
+            register.as_ptr(),
+            register.len(),
+            key.as_ptr(),
+            key.len(),
+            out.as_mut_ptr(),
+            out.len(),
+            value,
+        )
+    }
+}
+
+/// Writes the key and the value of the last record before the key, or zeros on refusal, and gives
+/// the answer that holds the length of the record's key.
+pub(crate) fn before(register: &[u8], key: &[u8], out: &mut [u8], value: &mut [u8; 32]) -> u64 {
+    // SAFETY: As for `at_or_after`.
+    unsafe {
+        mijdegen_before(
+            register.as_ptr(),
+            register.len(),
+            key.as_ptr(),
+            key.len(),
+            out.as_mut_ptr(),
+            out.len(),
+            value,
+        )
+    }
+}
+
+/// Writes the register of the records from the first key up to and including the last, or zeros
+/// on refusal, and gives the answer that holds the table's length.
+pub(crate) fn run(register: &[u8], first: &[u8], last: &[u8], out: &mut [u8]) -> u64 {
+    // SAFETY: As for `put`.
+    unsafe {
+        mijdegen_run(
+            register.as_ptr(),
+            register.len(),
+            first.as_ptr(),
+            first.len(),
+            last.as_ptr(),
+            last.len(),
+            out.as_mut_ptr(),
+            out.len(),
         )
     }
 }

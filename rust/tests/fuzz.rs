@@ -1,4 +1,4 @@
-//! All ten calls on random and damaged registers, against the independent crate.
+//! All thirteen calls on random and damaged registers, against the independent crate.
 //!
 //! The rounds of the gate are always the same. More of them, from another seed:
 //!
@@ -13,6 +13,7 @@ use common::calls::{
 };
 use common::forge::{link_to, Entry, Page};
 use common::lists::{damaged, drawn_value, out_length, Source};
+use common::neighbours::{compare_neighbour, NEIGHBOURS};
 use common::sets::{part, set, Kind, KINDS};
 use common::writes::{compare_call, length_in, Call};
 use common::Random;
@@ -36,7 +37,7 @@ fn all_calls() {
     assert_ne!(seed, 0, "the seed 0 cannot be taken");
 
     let sources = sources();
-    let mut counts = [0; 14];
+    let mut counts = [0; 15];
     for round in 0..rounds {
         // Each round has a seed of its own, so that it can be run alone.
         let told = Told(seed + round);
@@ -51,14 +52,14 @@ fn all_calls() {
             println!("{} rounds, answers by number: {counts:?}", round + 1);
         }
     }
-    assert_eq!(counts.iter().sum::<u64>(), 10 * rounds);
+    assert_eq!(counts.iter().sum::<u64>(), 13 * rounds);
     println!("{rounds} rounds, answers by number: {counts:?}");
     // Every number is answered, and a good part of the calls are done.
     if rounds >= ROUNDS {
         for (number, count) in counts.iter().enumerate() {
             assert!(*count >= 10, "number {number}: {count}");
         }
-        assert!(counts[0] > 4 * rounds, "{}", counts[0]);
+        assert!(counts[0] > 5 * rounds, "{}", counts[0]);
     }
 }
 
@@ -89,8 +90,8 @@ fn sources() -> Vec<Source> {
     sources
 }
 
-/// Runs all ten calls once and counts the numbers that they answer.
-fn run(random: &mut Random, sources: &[Source], counts: &mut [u64; 14]) {
+/// Runs all thirteen calls once and counts the numbers that they answer.
+fn run(random: &mut Random, sources: &[Source], counts: &mut [u64; 15]) {
     let source = random.one_of(sources);
     let set = draw_set(random, source);
     let register = draw_register(random, source, &set);
@@ -118,12 +119,18 @@ fn run(random: &mut Random, sources: &[Source], counts: &mut [u64; 14]) {
     };
     let length = *random.one_of(&[0, 3, 20, 32, 256, 300]);
     count(compare_list(&register, n, length));
+    for call in NEIGHBOURS {
+        let key = source.key(random, &set);
+        let length = *random.one_of(&[0, 3, 20, 32, 256, 300]);
+        count(compare_neighbour(&register, call, &key, length));
+    }
 
     let second = match random.below(3) {
         0 => table(&near(random, source, &set)),
         _ => source.second(random, &set),
     };
     let calls = [
+        draw_run(random, source, &set),
         Call::put(&source.key(random, &set), &drawn_value(random)),
         Call::join(&source.key(random, &set), &drawn_value(random)),
         Call::remove(&source.key(random, &set)),
@@ -133,6 +140,15 @@ fn run(random: &mut Random, sources: &[Source], counts: &mut [u64; 14]) {
     for call in &calls {
         count(compare_write(random, &register, call));
     }
+}
+
+/// Draws a run between two keys. The first is seldom greater than the last.
+fn draw_run(random: &mut Random, source: &Source, set: &Set) -> Call {
+    let mut ends = [source.key(random, set), source.key(random, set)];
+    if random.below(8) != 0 {
+        ends.sort();
+    }
+    Call::run(&ends[0], &ends[1])
 }
 
 /// Compares a writing call for an output that has room, or that has none.

@@ -4,6 +4,7 @@
 mod common;
 
 use common::forge::{faulty_registers, one_record, EMPTY};
+use common::neighbours::{expect_neighbour, Neighbour, NEIGHBOURS};
 use common::sets::{set, Kind};
 use common::writes::{difference_value, expect_outcome, expect_refusal, Call};
 use independent::{table, Set};
@@ -38,6 +39,97 @@ fn full() -> Set {
     set(Kind::Ordinary, 4_096)
 }
 
+/// A register of 4,096 records, of which `a/b1` with its value is the first.
+fn full_with_a_first() -> Set {
+    let mut full = full();
+    full.pop_first();
+    full.insert(b"a/b1".to_vec(), VALUE);
+    full
+}
+
+/// Register, key, absence, output: all combinations of faults.
+#[test]
+fn at_or_after_and_before() {
+    let accepted = [one_record(), table(&full_with_a_first())];
+    let mut cases = 0;
+    for (register, number) in registers(&accepted) {
+        for call in NEIGHBOURS {
+            // Two keys beside `a/b1`, and one beside which no record lies.
+            let [one, other, beside_none]: [&[u8]; 3] = match call {
+                Neighbour::AtOrAfter => [b"a/b1", b"a/b0", b"~/~"],
+                Neighbour::Before => [b"a/b10", b"a/b2", b"a/b1"],
+            };
+            for (key, due_on_key) in [
+                (one, None),
+                (other, None),
+                (beside_none, Some(12)),
+                (b"ab", Some(7)),
+                (b"", Some(7)),
+            ] {
+                for (out_length, no_room) in [(4, None), (9, None), (3, Some(13)), (0, Some(13))] {
+                    let due = [number, due_on_key, no_room];
+                    let (mut output, mut value) = (vec![0; out_length], [0; 32]);
+                    let expected = match due.iter().flatten().next() {
+                        Some(number) => Err(*number),
+                        None => {
+                            output[..4].copy_from_slice(b"a/b1");
+                            value = VALUE;
+                            Ok(4)
+                        }
+                    };
+                    expect_neighbour(&register, call, key, expected, &output, &value);
+                    cases += 1;
+                }
+            }
+        }
+    }
+    assert_eq!(cases, (10 + 2) * 2 * 5 * 4);
+}
+
+/// Register, first key, last key, their order, output: all combinations of faults. No run has more
+/// records than the register, so number 5 is due on lent registers alone.
+#[test]
+fn run() {
+    let accepted = [one_record(), table(&full_with_a_first())];
+    // Between lawful keys lies `a/b1` alone, where the first is not greater than the last.
+    let first_keys = [
+        (&b"a/b1"[..], None),
+        (b"a/b0", None),
+        (b"a/c", None),
+        (b"ab", Some(7)),
+        (b"", Some(7)),
+    ];
+    let last_keys = [
+        (&b"a/b1"[..], None),
+        (b"a/b2", None),
+        (b"b", Some(7)),
+        (b"/", Some(7)),
+        (b"", Some(7)),
+    ];
+    let (mut cases, mut counts) = (0, [0; 15]);
+    for (register, number) in registers(&accepted) {
+        for (first, first_fault) in first_keys {
+            for (last, last_fault) in last_keys {
+                let falling = (first > last).then_some(14);
+                for (out_length, no_room) in [(64, None), (63, Some(13)), (0, Some(13))] {
+                    let due = [number, first_fault, last_fault, falling, no_room];
+                    let call = Call::run(first, last);
+                    expect_first(&register, &call, out_length, &due, &one_record());
+                    let first_due = due.iter().flatten().next();
+                    counts[usize::from(*first_due.unwrap_or(&0))] += 1;
+                    cases += 1;
+                }
+            }
+        }
+    }
+    assert_eq!(cases, (10 + 2) * 5 * 5 * 3);
+    // Each of 1 to 10 is due on one of the registers, and 7 on 19 pairs of keys as well.
+    assert!((1..=10).all(|number| counts[number] >= 5 * 5 * 3));
+    assert_eq!(counts[7], 5 * 5 * 3 + 2 * 19 * 3);
+    assert_eq!(counts[14], 2 * 2 * 3);
+    assert_eq!((counts[0], counts[13]), (2 * 4, 2 * 4 * 2));
+}
+
 /// Register, key, value, count, output: all combinations of faults.
 #[test]
 fn put_and_join() {
@@ -69,9 +161,7 @@ fn put_and_join() {
 /// no number 5, whether the key is there or not.
 #[test]
 fn remove() {
-    let mut full = full();
-    full.pop_first();
-    full.insert(b"a/b1".to_vec(), VALUE);
+    let mut full = full_with_a_first();
     let full_table = table(&full);
     full.remove(&b"a/b1"[..]);
     let without = table(&full);

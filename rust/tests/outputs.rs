@@ -6,23 +6,27 @@ use common::calls::{
     mijdegen_difference, mijdegen_join, mijdegen_merge, mijdegen_put, mijdegen_remove,
 };
 use common::forge::{one_record, EMPTY};
+use common::neighbours::NEIGHBOURS;
 use common::sets::{part, set, set_of_layers, Kind};
 use common::writes::{expect_refusal, expect_table, Call};
 use independent::{table, Set, LONGEST};
-use mijdegen::{difference, join, merge, put, remove, Refusal};
+use mijdegen::{difference, join, merge, put, remove, run, Listed, Refusal};
 use std::ptr;
 
 const VALUE: [u8; 32] = [0x11; 32];
 
-/// Gives the four calls on registers of the set, each with its register and its result. Where a
-/// record is new or goes away, it is the n-th.
+/// Gives five calls on registers of the set, each with its register and its result. Where a record
+/// is new or goes away, it is the n-th, and a run begins there.
 fn calls(set: &Set, n: usize) -> Vec<(Vec<u8>, Call, Vec<u8>)> {
     let whole = table(set);
     let others = table(&part(set, |other| other != n));
     let odd = table(&part(set, |n| n % 2 == 1));
     let even = table(&part(set, |n| n % 2 == 0));
     let (key, value) = set.iter().nth(n).expect("n is less than the count");
+    let last = set.keys().next_back().expect("there are records");
+    let rest = table(&part(set, |other| other >= n));
     vec![
+        (whole.clone(), Call::run(key, last), rest),
         (others.clone(), Call::put(key, value), whole.clone()),
         (others.clone(), Call::join(key, value), whole.clone()),
         (whole.clone(), Call::remove(key), others),
@@ -58,7 +62,7 @@ fn every_length_of_the_output() {
         }
     }
     assert_eq!(cases, lengths);
-    assert_eq!(cases, 18_026);
+    assert_eq!(cases, 21_437);
 }
 
 /// Outputs around the greatest length of a table and longer ones: all that follows is zero.
@@ -75,7 +79,7 @@ fn very_long_outputs() {
             }
         }
     }
-    assert_eq!(cases, 2 * 4 * 4 * 2);
+    assert_eq!(cases, 2 * 5 * 4 * 2);
 }
 
 /// The inputs may lie at any address, and other bytes may stand around them.
@@ -84,7 +88,9 @@ fn any_address() {
     let set = set(Kind::Ordinary, 10);
     let whole = table(&set);
     let others = table(&part(&set, |n| n != 4));
-    let (key, value) = set.iter().nth(4).expect("there are 10");
+    let alone = table(&part(&set, |n| n == 4));
+    let record = |n: usize| set.iter().nth(n).expect("there are 10");
+    let ((key, value), previous, next) = (record(4), record(3), record(5));
     let mut cases = 0;
     for offset in 0..16 {
         // 3 bytes that stand around them; the last could be the start of a page.
@@ -104,10 +110,25 @@ fn any_address() {
             out.truncate(others.len());
             assert_eq!(remove(second, key, &mut out), Ok(others.len()));
             assert!(out == others, "remove at {offset}");
-            cases += 4;
+            out.truncate(alone.len());
+            assert_eq!(run(second, key..=key, &mut out), Ok(alone.len()));
+            assert!(out == alone, "run at {offset}");
+            cases += 5;
+
+            // The record beside the key is the one after it where the key is absent.
+            for (call, (beside, value)) in NEIGHBOURS.into_iter().zip([next, previous]) {
+                let listed = Listed {
+                    key_length: beside.len(),
+                    value: *value,
+                };
+                out.resize(beside.len(), 0xaa);
+                assert_eq!(call.safe(register, key, &mut out), Ok(listed));
+                assert!(out == *beside, "{call:?} at {offset}");
+                cases += 1;
+            }
         }
     }
-    assert_eq!(cases, 16 * 3 * 4);
+    assert_eq!(cases, 16 * 3 * 7);
 }
 
 /// Lengths whose low 32 bits alone would be those of what is wanted. Most of the memory is never
@@ -126,6 +147,15 @@ fn lengths_over_32_bits() {
     long[..7].copy_from_slice(&EMPTY);
     let register = &long[..(1 << 32) + 7];
     let too_long = Refusal::TooLong;
+    for call in NEIGHBOURS {
+        let found = call.safe(register, b"a/b1", &mut out);
+        refused(found.map(|found| found.key_length), too_long, &mut out);
+    }
+    refused(
+        run(register, b"a/b1"..=b"a/b1", &mut out),
+        too_long,
+        &mut out,
+    );
     refused(put(register, b"a/b1", &VALUE, &mut out), too_long, &mut out);
     refused(
         join(register, b"a/b1", &VALUE, &mut out),
@@ -143,6 +173,17 @@ fn lengths_over_32_bits() {
     long[..4].copy_from_slice(b"a/b1");
     let key = &long[..(1 << 32) + 4];
     let unlawful = Refusal::UnlawfulKey;
+    for call in NEIGHBOURS {
+        let found = call.safe(&one_record(), key, &mut out);
+        refused(found.map(|found| found.key_length), unlawful, &mut out);
+    }
+    for (first, last) in [(key, &b"a/b1"[..]), (b"a/b1", key), (key, key)] {
+        refused(
+            run(&one_record(), first..=last, &mut out),
+            unlawful,
+            &mut out,
+        );
+    }
     refused(put(&EMPTY, key, &VALUE, &mut out), unlawful, &mut out);
     refused(join(&EMPTY, key, &VALUE, &mut out), unlawful, &mut out);
     refused(remove(&one_record(), key, &mut out), unlawful, &mut out);

@@ -4,8 +4,8 @@ use mijdegen::{Refusal, LONGEST, LONGEST_KEY};
 use std::collections::HashSet;
 use std::error::Error;
 
-/// The 13 refusals with their numbers and their names in C.
-const REFUSALS: [(Refusal, u8, &str); 13] = [
+/// The 14 refusals with their numbers and their names in C.
+const REFUSALS: [(Refusal, u8, &str); 14] = [
     (Refusal::TooLong, 1, "MIJDEGEN_TOO_LONG"),
     (Refusal::EndsEarly, 2, "MIJDEGEN_ENDS_EARLY"),
     (Refusal::Departs, 3, "MIJDEGEN_DEPARTS"),
@@ -19,6 +19,7 @@ const REFUSALS: [(Refusal, u8, &str); 13] = [
     (Refusal::ValueLength, 11, "MIJDEGEN_VALUE_LENGTH"),
     (Refusal::KeyAbsent, 12, "MIJDEGEN_KEY_ABSENT"),
     (Refusal::NoRoom, 13, "MIJDEGEN_NO_ROOM"),
+    (Refusal::FirstAfterLast, 14, "MIJDEGEN_FIRST_AFTER_LAST"),
 ];
 
 #[test]
@@ -32,8 +33,8 @@ fn numbers_lead_to_refusals_and_back() {
 #[test]
 fn other_numbers_are_no_refusal() {
     assert_eq!(Refusal::from_number(0), None);
-    // 242 numbers.
-    for number in 14..=255 {
+    // 241 numbers.
+    for number in 15..=255 {
         assert_eq!(Refusal::from_number(number), None);
     }
 }
@@ -47,7 +48,7 @@ fn each_refusal_has_its_own_message() {
             error.to_string()
         })
         .collect();
-    assert_eq!(messages.len(), 13);
+    assert_eq!(messages.len(), 14);
     assert!(!messages.contains(""));
 }
 

@@ -4,8 +4,10 @@ mod common;
 
 use common::forge::{left_chain, link_to, longest_page, right_chain, Entry, Page, EMPTY};
 use common::lists::{full_set, List};
+use common::neighbours::{expect_neighbour, Neighbour, NEIGHBOURS};
 use common::sets::{
-    long_keys_in_turn, one_page_below_high, part, set, Kind, FULL_KINDS, HIGH, KINDS,
+    greatest_key, just_after, just_before, least_key, long_keys_in_turn, one_page_below_high, part,
+    set, Kind, FULL_KINDS, HIGH, KINDS,
 };
 use common::writes::{expect_outcome, expect_table, Call};
 use common::Random;
@@ -43,8 +45,8 @@ fn digest_and_layer() {
     assert_eq!(found, (Err(Refusal::TooLong), Err(Refusal::TooLong)));
 }
 
-/// Checks the register and looks for the key in it and for its record, on a small stack; then
-/// writes with it. Gives the number that is due, or 0.
+/// Checks the register and looks for the key in it, for its record and for those beside it, on a
+/// small stack; then writes with it. Gives the number that is due, or 0.
 fn call_with_small_stack(register: Vec<u8>, key: &[u8], n: usize) -> u8 {
     // The expected results are made outside the small stack.
     let count = independent::check(&register);
@@ -52,7 +54,13 @@ fn call_with_small_stack(register: Vec<u8>, key: &[u8], n: usize) -> u8 {
     let (mut key_out, mut value) = ([0; 256], [0; 32]);
     let length = independent::list(&register, n as u64, &mut key_out, &mut value);
 
+    for call in NEIGHBOURS {
+        neighbour_with_small_stack(&register, call, key);
+    }
     let room = register.len() + 1_000;
+    for first in [key, &least_key()] {
+        write_with_small_stack(&register, Call::run(first, &greatest_key()), room);
+    }
     write_with_small_stack(&register, Call::put(key, &[0x77; 32]), room);
     write_with_small_stack(&register, Call::join(key, &[0x77; 32]), room);
     write_with_small_stack(&register, Call::remove(key), room);
@@ -78,6 +86,17 @@ fn call_with_small_stack(register: Vec<u8>, key: &[u8], n: usize) -> u8 {
     assert_eq!(listed, expected);
     assert_eq!(out, key_out);
     count.err().unwrap_or(0)
+}
+
+/// Gives the record beside the key on a small stack.
+fn neighbour_with_small_stack(register: &[u8], call: Neighbour, key: &[u8]) {
+    // The expected result is made outside the small stack.
+    let (mut output, mut value) = ([0; 256], [0; 32]);
+    let expected = call.independent(register, key, &mut output, &mut value);
+    let (register, key) = (register.to_vec(), key.to_vec());
+    with_small_stack(move || {
+        expect_neighbour(&register, call, &key, expected, &output, &value);
+    });
 }
 
 /// Runs the writing call on a small stack.
@@ -216,11 +235,44 @@ fn the_deepest_results() {
     let mut with = low;
     with.insert(key.to_vec(), [0x77; 32]);
     let parted = table(&with);
+    // The runs on both sides of the key are one page each, and those with it have 17.
+    let (before, after) = (just_before(key), just_after(key));
+    let (before, after) = (before.expect("a lesser key"), after.expect("a short key"));
+    for (first, last) in [
+        (least_key(), before),
+        (least_key(), key.to_vec()),
+        (key.to_vec(), greatest_key()),
+        (after, greatest_key()),
+    ] {
+        write_with_small_stack(&parted, Call::run(&first, &last), parted.len());
+    }
+    for call in NEIGHBOURS {
+        neighbour_with_small_stack(&parted, call, key);
+    }
     with_small_stack(move || {
         let put = Call::put(key, &[0x77; 32]);
         expect_table(&one_page, &put, parted.len(), &parted);
         expect_table(&parted, &Call::remove(key), one_page.len(), &one_page);
     });
+}
+
+/// Runs that begin or end inside one page of long keys: of layers 3 and 0 in turn, so that below
+/// each entry of the root stands a chain of pages.
+#[test]
+fn runs_of_long_keys() {
+    let set = long_keys_in_turn(&[3, 0], 2_000);
+    let register = table(&set);
+    let keys: Vec<_> = set.keys().collect();
+    let mut cases = 0;
+    for (from, to) in [(0, 1_999), (1, 1_998), (1_000, 1_001), (501, 1_500)] {
+        let call = Call::run(keys[from], keys[to]);
+        write_with_small_stack(&register, call, register.len());
+        for call in NEIGHBOURS {
+            neighbour_with_small_stack(&register, call, keys[from]);
+        }
+        cases += 3;
+    }
+    assert_eq!(cases, 4 * 3);
 }
 
 /// A deep register that is refused, as the second of a merge or difference, behind a full one.

@@ -3,7 +3,8 @@
 mod common;
 
 use common::lists::{List, Source};
-use common::sets::{set, value, Kind};
+use common::neighbours::NEIGHBOURS;
+use common::sets::{greatest_key, least_key, set, value, Kind};
 use common::writes::{expect_outcome, Call};
 use common::Random;
 use independent::{table, Set};
@@ -71,18 +72,21 @@ fn writing_calls_at_the_same_time() {
 }
 
 #[test]
-fn differences_at_the_same_time() {
-    // 4 threads with 40 pairs of registers each, all different. What is due is known before they
-    // run side by side, 20 times each.
+fn differences_and_runs_at_the_same_time() {
+    // 4 threads with 40 pairs of registers each, all different, and as many runs. What is due is
+    // known before they run side by side, 20 times each.
     thread::scope(|scope| {
         for seed in 1..=4 {
             scope.spawn(move || {
                 let mut random = Random::new(30 + seed);
                 let source = Source::new(set(Kind::Mixed, 60).into_keys());
-                let cases: Vec<_> = (0..40)
-                    .map(|_| {
+                let cases: Vec<_> = (0..80)
+                    .map(|case| {
                         let first = table(&source.set(&mut random, 60));
-                        let call = Call::difference(&table(&source.set(&mut random, 60)));
+                        let call = match case % 2 {
+                            0 => Call::difference(&table(&source.set(&mut random, 60))),
+                            _ => drawn_run(&mut random, &source),
+                        };
                         let mut output = vec![0; 40_000];
                         let expected = call.independent(&first, &mut output);
                         (first, call, expected, output)
@@ -99,12 +103,25 @@ fn differences_at_the_same_time() {
     });
 }
 
-/// What check, lookup and list give, and the key that list writes.
+/// Draws a run between two keys of the source.
+fn drawn_run(random: &mut Random, source: &Source) -> Call {
+    let mut keys: Vec<_> = source.set(random, 60).into_keys().collect();
+    keys.push(least_key());
+    keys.push(greatest_key());
+    let mut ends = [random.one_of(&keys), random.one_of(&keys)];
+    ends.sort();
+    Call::run(ends[0], ends[1])
+}
+
+/// A record, or none where a call gives none, and the output with its key.
+type Given<T> = (Result<T, Refusal>, [u8; 40]);
+
+/// What check, lookup, list, at_or_after and before give.
 type Results = (
     Result<usize, Refusal>,
     Result<usize, Refusal>,
-    Result<Option<Listed>, Refusal>,
-    [u8; 40],
+    Given<Option<Listed>>,
+    [Given<Listed>; 2],
 );
 
 /// Gives a register of so many records, or a part of it, with its last key and the results.
@@ -118,32 +135,45 @@ fn case(random: &mut Random, count: usize) -> (Vec<u8>, Vec<u8>, Results) {
     let mut register = table(&set);
     register.truncate(register.len() - count % 2);
 
-    let last = set.last_key_value();
-    let (key, value) = last.map_or((b"a/b1".to_vec(), [0; 32]), |(key, value)| {
-        (key.clone(), *value)
-    });
+    let mut from_the_last = set.iter().rev();
+    let (last, previous) = (from_the_last.next(), from_the_last.next());
+    let key = last.map_or(b"a/b1".to_vec(), |(key, _)| key.clone());
     if count % 2 == 1 {
         let refused = Refusal::EndsEarly;
-        let results = (Err(refused), Err(refused), Err(refused), [0; 40]);
+        let beside = [(Err(refused), [0; 40]); 2];
+        let results = (Err(refused), Err(refused), (Err(refused), [0; 40]), beside);
         return (register, key, results);
     }
     let place = independent::lookup(&register, &key).map_err(|_| Refusal::KeyAbsent);
-    let mut out = [0; 40];
-    let listed = last.map(|_| {
-        out[..key.len()].copy_from_slice(&key);
-        Listed {
-            key_length: key.len(),
-            value,
-        }
+    let given = |record: Option<(&Vec<u8>, &[u8; 32])>| {
+        let mut out = [0; 40];
+        let listed = record.map(|(key, value)| {
+            out[..key.len()].copy_from_slice(key);
+            Listed {
+                key_length: key.len(),
+                value: *value,
+            }
+        });
+        (listed, out)
+    };
+    let (listed, out) = given(last);
+    let beside = [last, previous].map(|record| {
+        let (listed, out) = given(record);
+        (listed.ok_or(Refusal::KeyAbsent), out)
     });
-    (register, key, (Ok(count), place, Ok(listed), out))
+    (register, key, (Ok(count), place, (Ok(listed), out), beside))
 }
 
-/// Checks the register, looks for the key and lists the record of the last number.
+/// Checks the register, looks for the key, lists the record of the last number and gives those
+/// beside the key.
 fn results(register: &[u8], key: &[u8]) -> Results {
     let count = check(register);
     let n = count.unwrap_or(0).saturating_sub(1);
     let mut out = [0xaa; 40];
     let listed = list(register, n, &mut out);
-    (count, lookup_place(register, key), listed, out)
+    let beside = NEIGHBOURS.map(|call| {
+        let mut out = [0xaa; 40];
+        (call.safe(register, key, &mut out), out)
+    });
+    (count, lookup_place(register, key), (listed, out), beside)
 }

@@ -1,11 +1,11 @@
--- The thirteen numbers, what an answer says, and an answer as one number.
+-- The fourteen numbers, what an answer says, and an answer as one number.
 use Prim.Native.Nat.{ℕ, _+_, _*_, _/_, _%_, _^_}
 use mathlib.Core.Path.{_≡_}
 use mathlib.Core.Bool.{cond}
 use mathlib.Core.List.{List, [], _∷_}
 use lib.Dec.{eqb}
 use Rattle.answer.specs.declared.Refusal.{Refusal}
-use Rattle.answer.specs.declared.Refusal.the-variants.{TooLong, EndsEarly, Departs, BytesFollow, TooManyRecords, WrongPrefix, UnlawfulKey, KeysNotRising, WrongTree, WrongDigest, ValueLength, KeyAbsent, NoRoom}
+use Rattle.answer.specs.declared.Refusal.the-variants.{TooLong, EndsEarly, Departs, BytesFollow, TooManyRecords, WrongPrefix, UnlawfulKey, KeysNotRising, WrongTree, WrongDigest, ValueLength, KeyAbsent, NoRoom, FirstAfterLast}
 use Rattle.answer.specs.declared.Answer.{Answer}
 use Rattle.answer.specs.declared.Answer.the-variants.{Done, Refused}
 use Rattle.answer.specs.declared.Differed.{Differed}
@@ -22,8 +22,9 @@ use Rattle.answer.specs.declared.Differed.the-variants.{Found, Refused a
 -- 9: the pages, their entries and their linked gaps are not those that the rules give for the same keys.
 -- 10: a link's digest is not that of its page.
 -- 11: a value argument is not 32 bytes.
--- 12: the key is absent, for lookup and remove.
--- 13: the result's table (for list, the key) is longer than the output, or than 4,194,304 bytes.
+-- 12: the key is absent, for lookup and remove; no record lies at or after the key, or before it.
+-- 13: the result's table (for a single record, the key) is longer than the output, or than 4,194,304 bytes.
+-- 14: a first key is greater than the last.
 abbrev pub numberOf : Refusal → ℕ
 numberOf TooLong = 1
 numberOf EndsEarly = 2
@@ -38,6 +39,7 @@ numberOf WrongDigest = 10
 numberOf ValueLength = 11
 numberOf KeyAbsent = 12
 numberOf NoRoom = 13
+numberOf FirstAfterLast = 14
 
 -- What an answer says: a refusal its number alone, a call that is done its values.
 pub data Said : Type 0 where

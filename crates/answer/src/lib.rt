@@ -1,4 +1,4 @@
-// The answers of the public calls and the thirteen refusals. The functions are for the crates above and no public calls.
+// The answers of the public calls and the fourteen refusals. The functions are for the crates above and no public calls.
 ghost use mathlib.Core.Path.{_≡_};
 ghost use Rattle.answer.specs.Answer.{numberOf, encoded, encodedDifference};
 ghost use Rattle.answer.specs.Inner.{LengthFits};
@@ -18,6 +18,7 @@ pub enum Refusal {
     ValueLength,
     KeyAbsent,
     NoRoom,
+    FirstAfterLast,
 }
 
 // What a call answers: a value, or the reason of a refusal.
@@ -50,6 +51,7 @@ pub fn number(refusal: Refusal) -> u64
         Refusal::ValueLength => 11,
         Refusal::KeyAbsent => 12,
         Refusal::NoRoom => 13,
+        Refusal::FirstAfterLast => 14,
     }
 }
 

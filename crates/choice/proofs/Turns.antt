@@ -28,7 +28,7 @@ use Rattle.choice.proofs.Weaving.{weave-none, weave-whole, weave-first,
 use Rattle.choice.proofs.Choosing.{all-first, first-at, all-drop, records-past, records-cons, records-snoc, records-slice}
 
 -- a part of a list
-part-is : (n i : ℕ) (l : List ℕ) → take (n - i) (drop i l) ≡ drop i (take n l)
+pub part-is : {A : Type 0} (n i : ℕ) (l : List A) → take (n - i) (drop i l) ≡ drop i (take n l)
 part-is n zero l = rw sub-zero
 part-is zero (suc i) l = let e : 0 - suc i ≡ 0 = omega arith in rw e
 part-is (suc n) (suc i) [] = take-nil (suc n - suc i)

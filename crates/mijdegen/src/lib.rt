@@ -5,6 +5,7 @@ ghost use Rattle.sha256.specs.Digest.{digestAnswer, digestOutput};
 ghost use Rattle.key.specs.Layer.{layerAnswer};
 ghost use lib.ListN.{length};
 ghost use Rattle.promises.specs.Difference.{differenceOutcome, differenceAnswer, differenceOutput};
+ghost use Rattle.promises.specs.Range.{atOrAfterOutcome, beforeOutcome, runOutcome};
 ghost use Rattle.promises.specs.Outcome.{checkAnswer, lookupAnswer, listOutcome, listAnswer, listKey, listValue, putOutcome, joinOutcome, removeOutcome, mergeOutcome, answerOf, outputOf};
 
 #[no_mangle]
@@ -43,6 +44,42 @@ pub extern "C" fn mijdegen_list(lent: &[u8], n: u64, out: &mut [u8], value: &mut
     ensures value { λ _. ⌜ now (value .exit) ≡ listValue (listOutcome (now (lent .entry)) n (length (now (out .entry)))) ⌝ }
 {
     answer::encode(register::list(lent, n, out, value))
+}
+
+#[no_mangle]
+pub extern "C" fn mijdegen_at_or_after(
+    lent: &[u8],
+    sought: &[u8],
+    out: &mut [u8],
+    value: &mut [u8; 32],
+) -> u64
+    ensures answer { λ r. ⌜ r ≡ encoded (listAnswer (atOrAfterOutcome (now (lent .entry)) (now (sought .entry)) (length (now (out .entry))))) ⌝ }
+    ensures key { λ _. ⌜ now (out .exit) ≡ listKey (atOrAfterOutcome (now (lent .entry)) (now (sought .entry)) (length (now (out .entry)))) (length (now (out .entry))) ⌝ }
+    ensures value { λ _. ⌜ now (value .exit) ≡ listValue (atOrAfterOutcome (now (lent .entry)) (now (sought .entry)) (length (now (out .entry)))) ⌝ }
+{
+    answer::encode(register::at_or_after(lent, sought, out, value))
+}
+
+#[no_mangle]
+pub extern "C" fn mijdegen_before(
+    lent: &[u8],
+    sought: &[u8],
+    out: &mut [u8],
+    value: &mut [u8; 32],
+) -> u64
+    ensures answer { λ r. ⌜ r ≡ encoded (listAnswer (beforeOutcome (now (lent .entry)) (now (sought .entry)) (length (now (out .entry))))) ⌝ }
+    ensures key { λ _. ⌜ now (out .exit) ≡ listKey (beforeOutcome (now (lent .entry)) (now (sought .entry)) (length (now (out .entry)))) (length (now (out .entry))) ⌝ }
+    ensures value { λ _. ⌜ now (value .exit) ≡ listValue (beforeOutcome (now (lent .entry)) (now (sought .entry)) (length (now (out .entry)))) ⌝ }
+{
+    answer::encode(register::before(lent, sought, out, value))
+}
+
+#[no_mangle]
+pub extern "C" fn mijdegen_run(lent: &[u8], first: &[u8], last: &[u8], out: &mut [u8]) -> u64
+    ensures answer { λ r. ⌜ r ≡ encoded (answerOf (runOutcome (now (lent .entry)) (now (first .entry)) (now (last .entry)) (length (now (out .entry))))) ⌝ }
+    ensures output { λ _. ⌜ now (out .exit) ≡ outputOf (runOutcome (now (lent .entry)) (now (first .entry)) (now (last .entry)) (length (now (out .entry)))) (length (now (out .entry))) ⌝ }
+{
+    answer::encode(register::run(lent, first, last, out))
 }
 
 #[no_mangle]

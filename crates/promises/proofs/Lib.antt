@@ -7,3 +7,4 @@ pub mod DifferenceLaws
 pub mod Orders
 pub mod Promises
 pub mod ListingLaws
+pub mod RangeLaws

@@ -25,11 +25,11 @@ use Rattle.tree.specs.Place.{places}
 use Rattle.tree.proofs.Laws.{LawfulKey, RightValue, fitting, fitting-fits, records-of-set, table-accepted, accepted-table, Stand, places-stand}
 use Rattle.promises.specs.Map.{find, isThere, put, join, remove, merge, greaterFound, nth}
 use Rattle.promises.specs.Pages.{pagesOf, openedPages, inPages}
-use Rattle.promises.specs.Outcome.{checkVerdict, checkAnswer, placeOf, answerPlace, lookupVerdict, lookupAnswer, unlisted, pastTheEnd, listRecord, listVerdict, listOutcome, listAnswer, listKey, listValue, Plan, sizes, settle, carryOut, putPlan, joinPlan, removePlan, mergePlan, onFirst, putOutcome, joinOutcome, removeOutcome, mergeOutcome, answerOf, outputOf}
+use Rattle.promises.specs.Outcome.{checkVerdict, checkAnswer, placeOf, answerPlace, lookupVerdict, lookupAnswer, Listed, unlisted, pastTheEnd, listed, listRecord, listVerdict, listOutcome, listAnswer, listKey, listValue, Plan, roomTest, sizes, settle, carryOut, putPlan, joinPlan, removePlan, mergePlan, onFirst, putOutcome, joinOutcome, removeOutcome, mergeOutcome, answerOf, outputOf}
 use Rattle.promises.specs.Difference.{differenceRecords, settleDifference, differenceVerdicts, differenceOutcome, differenceAnswer, differenceOutput}
 use Rattle.promises.specs.Register.{RegisterOf}
-use Rattle.promises.specs.Reply.{Reply, listReply, writingReply, differenceReply}
-use Rattle.promises.specs.Order.{AllZero, Refuses, Judged, Check, filled, ResultFinds}
+use Rattle.promises.specs.Reply.{Reply, recordReply, writingReply, differenceReply}
+use Rattle.promises.specs.Order.{AllZero, Refuses, Judged, Check, filled, Measured, ResultFinds, GivesRecord}
 use Rattle.promises.specs.Promises.{CheckReplies, LookupReplies, ListReplies, PutReplies, JoinReplies, RemoveReplies, MergeReplies, DifferenceReplies, DifferenceIsExact}
 use Rattle.promises.proofs.MapLaws.{sorted-rising, nth-past, find-merge, Proper, fits-proper, proper-put, proper-join, proper-remove, proper-merge}
 use Rattle.promises.proofs.Steps.{put-finds, join-finds, remove-finds}
@@ -47,7 +47,7 @@ pub accepted-proper : (s : ByteString) (t : SpeltTree) → judge (s .list) ≡ a
 accepted-proper s t j = fits-proper (records t) (accepted-fits s t j)
 
 -- ---- what a test says
-lawful-passes : (b : Bool) → (b ≡ false → ⊥) → b ≡ true
+pub lawful-passes : (b : Bool) → (b ≡ false → ⊥) → b ≡ true
 lawful-passes true h = refl
 lawful-passes false h = absurd (h refl)
 
@@ -75,12 +75,12 @@ size-fails : (n room : ℕ) → TooLarge n room → (leb n room && leb n longest
 size-fails n room (inl h) = rw (lt-leb n room h)
 size-fails n room (inr h) = simp (lt-leb n longest h, and-false)
 
-within : (n m : ℕ) → (m < n → ⊥) → n ≤ m
+pub within : (n m : ℕ) → (m < n → ⊥) → n ≤ m
 within n m h = cases (leb n m) (leb-true n m) (λ e. absurd (h (leb-false n m e)))
 
 -- ---- the checks of a call whose reply is fixed by the first number that is due
 module _ (whole : Reply) (reply : Option Refusal → Reply) (refuses : (r : Refusal) → Refuses (reply (some r)) (numberOf r)) where
-  check : (n : Refusal) (b : Bool) (ts : List Test) {broken goesOn : Type 0} → (broken → b ≡ false) → ((broken → ⊥) → b ≡ true)
+  pub check : (n : Refusal) (b : Bool) (ts : List Test) {broken goesOn : Type 0} → (broken → b ≡ false) → ((broken → ⊥) → b ≡ true)
       → whole ≡ reply (due ((n, b) ∷ ts)) → ((broken → ⊥) → whole ≡ reply (due ts) → goesOn) → Check whole (numberOf n) broken goesOn
   unfolding due
   check n b ts fails passes e goesOn = record {
@@ -88,40 +88,46 @@ module _ (whole : Reply) (reply : Option Refusal → Reply) (refuses : (r : Refu
     passes = λ h. goesOn h (e ∙ rw (passes h));
   }
 
+  -- the output
+  pub measured : (rs : List Record) (room : ℕ) (others : List ℕ) → Proper rs → length rs ≤ most
+      → reply none .answer ≡ doneWith (length (tableOf rs) ∷ others) → reply none .outputs ≡ filled room (tableOf rs) ∷ []
+      → whole ≡ reply (due (roomTest rs room ∷ [])) → Measured whole room others rs
+  unfolding due
+  measured rs room others p few answer outputs e =
+      let size : ℕ = length (tableOf rs) in
+      check NoRoom (leb size room && leb size longest) [] (size-fails size room)
+      (λ h. and-both (le-leb size room (within size room (λ l. h (inl l)))) (le-leb size longest (within size longest (λ l. h (inr l))))) e
+      (λ fit done. record {
+        register = register-of rs (fitting-fits rs (record { count = few; order = sorted-rising rs (p .order); keys = p .keys; values = p .values; size = within size longest (λ l. fit (inr l)) }));
+        answer = ap (λ (q : Reply). q .answer) done ∙ answer;
+        outputs = ap (λ (q : Reply). q .outputs) done ∙ outputs;
+      })
+
   -- last the resulting count and the output
   last : (rs : List Record) (room : ℕ) (others : List ℕ) (finds : List ℕ → Option (List ℕ)) → Proper rs
       → ((key : List ℕ) → find key rs ≡ finds key) → reply none .answer ≡ doneWith (length (tableOf rs) ∷ others)
       → reply none .outputs ≡ filled room (tableOf rs) ∷ [] → whole ≡ reply (due (sizes rs room)) → ResultFinds whole room others finds
-  unfolding sizes due
-  last rs room others finds p f answer outputs e =
-      let size : ℕ = length (tableOf rs) in
-      record {
-        result = rs;
-        inOrder = sorted-rising rs (p .order);
-        found = f;
-        last = check TooManyRecords (leb (length rs) most) ((NoRoom, leb size room && leb size longest) ∷ [])
-            (lt-leb (length rs) most) (λ h. le-leb (length rs) most (within (length rs) most h)) e
-            (λ few e₁. check NoRoom (leb size room && leb size longest) []
-            (size-fails size room)
-            (λ h. and-both (le-leb size room (within size room (λ l. h (inl l)))) (le-leb size longest (within size longest (λ l. h (inr l))))) e₁
-            (λ fit e₂. record {
-              register = register-of rs (fitting-fits rs (record { count = within (length rs) most few; order = sorted-rising rs (p .order); keys = p .keys; values = p .values; size = within size longest (λ l. fit (inr l)) }));
-              answer = ap (λ (q : Reply). q .answer) e₂ ∙ answer;
-              outputs = ap (λ (q : Reply). q .outputs) e₂ ∙ outputs;
-            }));
-      }
+  unfolding sizes
+  last rs room others finds p f answer outputs e = record {
+    result = rs;
+    inOrder = sorted-rising rs (p .order);
+    found = f;
+    last = check TooManyRecords (leb (length rs) most) (roomTest rs room ∷ [])
+        (lt-leb (length rs) most) (λ h. le-leb (length rs) most (within (length rs) most h)) e
+        (λ few. measured rs room others p (within (length rs) most few) answer outputs);
+  }
 
 -- ---- put, join, remove, merge
 module _ (rs : List Record) (room : ℕ) where
   -- the reply by the first number that is due
-  abbrev settledReply : Option Refusal → Reply
+  abbrev pub settledReply : Option Refusal → Reply
   settledReply o = writingReply (settle o rs) room
 
-  settled-refuses : (r : Refusal) → Refuses (settledReply (some r)) (numberOf r)
+  pub settled-refuses : (r : Refusal) → Refuses (settledReply (some r)) (numberOf r)
   unfolding settle answerOf outputOf
   settled-refuses r = record { answer = refl; outputs = (refl, tt) }
 
-  settled-writes : (settledReply none .answer ≡ doneWith (length (tableOf rs) ∷ [])) × (settledReply none .outputs ≡ filled room (tableOf rs) ∷ [])
+  pub settled-writes : (settledReply none .answer ≡ doneWith (length (tableOf rs) ∷ [])) × (settledReply none .outputs ≡ filled room (tableOf rs) ∷ [])
   unfolding settle answerOf outputOf
   settled-writes = (refl, refl)
 
@@ -328,34 +334,39 @@ lookup-replies s k = record {
   };
 }
 
+-- a single record, by what list and the calls beside a key give
+module _ (o : Listed) (room : ℕ) where
+  -- both outputs are zero where there is none
+  pub record-refuses : (r : Refusal) → o ≡ unlisted r → Refuses (recordReply o room) (numberOf r)
+  unfolding listAnswer listKey listValue
+  record-refuses r e = record { answer = rw e; outputs = (rw e, (rw e, tt)) }
+
+  record-past : o ≡ pastTheEnd → (recordReply o room .answer ≡ doneWith (0 ∷ [])) × AllZero (recordReply o room .outputs)
+  unfolding listAnswer listKey listValue
+  record-past e = (rw e, (rw e, (rw e, tt)))
+
+  pub gives-record : (r : Record) → o ≡ cond (leb (length (r .key)) room) (listed r) (unlisted NoRoom) → GivesRecord (recordReply o room) room r
+  unfolding listAnswer listKey listValue
+  gives-record r e = record {
+    refuses = λ h. record-refuses NoRoom (e ∙ rw (lt-leb (length (r .key)) room h));
+    passes = λ h. let fit = le-leb (length (r .key)) room (within (length (r .key)) room h) in (rw (e, fit), rw (e, fit));
+  }
+
 nth-given : (before later : List Record) (r : Record) → nth (length before) (before ++ (r ∷ later)) ≡ some r
 unfolding nth
 nth-given [] later r = refl
 nth-given (x ∷ before) later r = nth-given before later r
 
--- both outputs of list are zero where it gives no record
-module _ (s : List ℕ) (n room : ℕ) where
-  list-refuses : (r : Refusal) → listOutcome s n room ≡ unlisted r → Refuses (listReply s n room) (numberOf r)
-  unfolding listAnswer listKey listValue
-  list-refuses r e = record { answer = rw e; outputs = (rw e, (rw e, tt)) }
-
-  list-past : listOutcome s n room ≡ pastTheEnd → (listReply s n room .answer ≡ doneWith (0 ∷ [])) × AllZero (listReply s n room .outputs)
-  unfolding listAnswer listKey listValue
-  list-past e = (rw e, (rw e, (rw e, tt)))
-
 pub list-replies : ListReplies
-unfolding listOutcome listVerdict listRecord listAnswer listKey listValue
-list-replies s n room = record {
-  refuses = λ r j. list-refuses (s .list) n room r (rw j);
-  accepts = λ t j. record {
-    past = λ h. list-past (s .list) n room (rw (j, nth-past n (records t) h));
-    given = λ before later r e q.
-        let g : nth n (records t) ≡ some r = rw (e, ← q) (nth-given before later r) in
-        record {
-          refuses = λ h. list-refuses (s .list) n room NoRoom (rw (j, g, lt-leb (length (r .key)) room h));
-          passes = λ h.
-              let fit = le-leb (length (r .key)) room (within (length (r .key)) room h) in
-              (rw (j, g, fit), rw (j, g, fit));
-        };
-  };
-}
+unfolding listOutcome listVerdict listRecord
+list-replies s n room =
+    let o = listOutcome (s .list) n room in
+    record {
+      refuses = λ r j. record-refuses o room r (rw j);
+      accepts = λ t j. record {
+        past = λ h. record-past o room (rw (j, nth-past n (records t) h));
+        given = λ before later r e q.
+            let g : nth n (records t) ≡ some r = rw (e, ← q) (nth-given before later r) in
+            gives-record o room r (rw (j, g));
+      };
+    }

@@ -1,7 +1,7 @@
 -- The order of checks: when a call is done, and when each number is given.
 use Prim.Native.Nat.{ℕ, _-_, _<_, _≤_}
 use mathlib.Core.Path.{_≡_}
-use mathlib.Core.Bool.{true, false, cond}
+use mathlib.Core.Bool.{true, false, cond, _||_}
 use mathlib.Core.Logic.{_⊎_}
 use mathlib.Core.Option.{Option, none, some}
 use mathlib.Core.List.{List, [], _∷_, _++_}
@@ -9,7 +9,7 @@ use lib.ListN.{length, take, drop}
 use Rattle.answer.specs.Answer.{numberOf, refusedWith, doneWith}
 use Rattle.answer.specs.declared.Refusal.{Refusal}
 use Rattle.fips180.specs.Hash.{zeros}
-use Rattle.key.specs.Key.{lawful}
+use Rattle.key.specs.Key.{lawful, less}
 use Rattle.tree.specs.Record.{Record, records}
 use Rattle.tree.specs.Table.{SpeltTree, tableOf}
 use Rattle.tree.specs.Judge.{equal, rising, refused, accepted, judge}
@@ -48,15 +48,17 @@ pub record Writes (reply : Reply) (room : ℕ) (others : List ℕ) (rs : List Re
   pub answer : reply .answer ≡ doneWith (length (tableOf rs) ∷ others)
   pub outputs : reply .outputs ≡ filled room (tableOf rs) ∷ []
 
+-- The output: 13 where the table is longer than it, or than 4,194,304 bytes.
+abbrev pub Measured : Reply → ℕ → List ℕ → List Record → Type 0
+Measured reply room others rs =
+    Check reply 13 ((room < length (tableOf rs)) ⊎ (4194304 < length (tableOf rs))) (Writes reply room others rs)
+
 -- The set that results is known by what each key finds in it. Last come the resulting count and the output.
 pub record ResultFinds (reply : Reply) (room : ℕ) (others : List ℕ) (finds : List ℕ → Option (List ℕ)) : Type 0 where
   pub result : List Record
   pub inOrder : rising result ≡ true
   pub found : (key : List ℕ) → find key result ≡ finds key
-  pub last :
-      Check reply 5 (4096 < length result)
-      (Check reply 13 ((room < length (tableOf result)) ⊎ (4194304 < length (tableOf result)))
-      (Writes reply room others result))
+  pub last : Check reply 5 (4096 < length result) (Measured reply room others result)
 
 -- ---- the calls
 -- Check answers the record count.
@@ -72,17 +74,64 @@ LookupOrder s k reply =
     ((v : List ℕ) → find k (records t) ≡ some v
     → (place : ℕ) × (reply .answer ≡ doneWith (place ∷ [])) × (take 32 (drop place s) ≡ v))))
 
+-- A single record: 13 where its key is longer than the output. Its key's length is answered, and key and value are written.
+abbrev pub GivesRecord : Reply → ℕ → Record → Type 0
+GivesRecord reply room r =
+    Check reply 13 (room < length (r .key))
+    ((reply .answer ≡ doneWith (length (r .key) ∷ []))
+    × (reply .outputs ≡ filled room (r .key) ∷ record { room = 32; bytes = r .val } ∷ []))
+
 -- List: from the count on it is past the end, which is answered as 0, and the outputs are zero. Otherwise it gives the record that n others come
--- before: its key's length is answered, key and value are written, and 13 is due where the key is longer than the output.
+-- before.
 pub record GivesNth (n room : ℕ) (reply : Reply) (rs : List Record) : Type 0 where
   pub past : length rs ≤ n → (reply .answer ≡ doneWith (0 ∷ [])) × AllZero (reply .outputs)
-  pub given : (before later : List Record) (r : Record) → rs ≡ before ++ (r ∷ later) → length before ≡ n
-      → Check reply 13 (room < length (r .key))
-      ((reply .answer ≡ doneWith (length (r .key) ∷ []))
-      × (reply .outputs ≡ filled room (r .key) ∷ record { room = 32; bytes = r .val } ∷ []))
+  pub given : (before later : List Record) (r : Record) → rs ≡ before ++ (r ∷ later) → length before ≡ n → GivesRecord reply room r
 
 abbrev pub ListOrder : List ℕ → ℕ → ℕ → Reply → Type 0
 ListOrder s n room reply = Judged s reply (λ t. GivesNth n room reply (records t))
+
+-- At or after: the key argument; 12 where no key from it on finds anything. The record that is given is in the set and not less than the key,
+-- and between them lies no other.
+pub record FirstFrom (k : List ℕ) (rs : List Record) (r : Record) : Type 0 where
+  pub held : find (r .key) rs ≡ some (r .val)
+  pub from : less (r .key) k ≡ false
+  pub nearest : (key : List ℕ) → less key k ≡ false → less key (r .key) ≡ true → find key rs ≡ none
+
+abbrev pub AtOrAfterOrder : List ℕ → List ℕ → ℕ → Reply → Type 0
+AtOrAfterOrder s k room reply =
+    Judged s reply (λ t.
+    Check reply 7 (lawful k ≡ false)
+    (Check reply 12 ((key : List ℕ) → less key k ≡ false → find key (records t) ≡ none)
+    ((r : Record) × FirstFrom k (records t) r × GivesRecord reply room r)))
+
+-- Before: the same on the other side of the key.
+pub record LastBelow (k : List ℕ) (rs : List Record) (r : Record) : Type 0 where
+  pub held : find (r .key) rs ≡ some (r .val)
+  pub below : less (r .key) k ≡ true
+  pub nearest : (key : List ℕ) → less key k ≡ true → less (r .key) key ≡ true → find key rs ≡ none
+
+abbrev pub BeforeOrder : List ℕ → List ℕ → ℕ → Reply → Type 0
+BeforeOrder s k room reply =
+    Judged s reply (λ t.
+    Check reply 7 (lawful k ≡ false)
+    (Check reply 12 ((key : List ℕ) → less key k ≡ true → find key (records t) ≡ none)
+    ((r : Record) × LastBelow k (records t) r × GivesRecord reply room r)))
+
+-- Run: the first key, then the last; 14 where the first is greater than the last; then the output. In the result each key from the first up to
+-- and including the last finds what it found before, and every other key nothing.
+pub record RunFinds (reply : Reply) (room : ℕ) (first last : List ℕ) (rs : List Record) : Type 0 where
+  pub result : List Record
+  pub inOrder : rising result ≡ true
+  pub found : (key : List ℕ) → find key result ≡ cond (less key first || less last key) none (find key rs)
+  pub measured : Measured reply room [] result
+
+abbrev pub RunOrder : List ℕ → List ℕ → List ℕ → ℕ → Reply → Type 0
+RunOrder s first last room reply =
+    Judged s reply (λ t.
+    Check reply 7 (lawful first ≡ false)
+    (Check reply 7 (lawful last ≡ false)
+    (Check reply 14 (less last first ≡ true)
+    (RunFinds reply room first last (records t)))))
 
 -- Put: the key argument, then the value. Afterwards the key finds the value, and every other key what it found before.
 abbrev pub PutOrder : List ℕ → List ℕ → List ℕ → ℕ → Reply → Type 0

@@ -94,12 +94,13 @@ pub record Plan : Type 0 where
   pub asks : List Test
   pub result : List Record
 
+-- The output is measured by the table that is to be written.
+abbrev pub roomTest : List Record → ℕ → Test
+roomTest rs room = (NoRoom, leb (length (tableOf rs)) room && leb (length (tableOf rs)) longest)
+
 -- Last come the resulting count and the output.
 unfoldable pub sizes : List Record → ℕ → List Test
-sizes rs room =
-    (TooManyRecords, leb (length rs) most)
-    ∷ (NoRoom, leb (length (tableOf rs)) room && leb (length (tableOf rs)) longest)
-    ∷ []
+sizes rs room = (TooManyRecords, leb (length rs) most) ∷ roomTest rs room ∷ []
 
 unfoldable pub settle : Option Refusal → List Record → Outcome
 settle none rs = wrote (tableOf rs)

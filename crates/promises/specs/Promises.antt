@@ -17,8 +17,8 @@ use Rattle.promises.specs.Pages.{pagesOf, known, openedPages, linkedPage
 use Rattle.promises.specs.Outcome.{wrote, mergeOutcome}
 use Rattle.promises.specs.Difference.{differenceOutcome, differenceAnswer}
 use Rattle.promises.specs.Register.{RegisterOf}
-use Rattle.promises.specs.Reply.{checkReply, lookupReply, listReply, putReply, joinReply, removeReply, mergeReply, differenceReply}
-use Rattle.promises.specs.Order.{ResultFinds, CheckOrder, LookupOrder, ListOrder, PutOrder, JoinOrder, RemoveOrder, MergeOrder, DifferenceOrder}
+use Rattle.promises.specs.Reply.{checkReply, lookupReply, listReply, atOrAfterReply, beforeReply, runReply, putReply, joinReply, removeReply, mergeReply, differenceReply}
+use Rattle.promises.specs.Order.{ResultFinds, CheckOrder, LookupOrder, ListOrder, AtOrAfterOrder, BeforeOrder, RunOrder, PutOrder, JoinOrder, RemoveOrder, MergeOrder, DifferenceOrder}
 use Rattle.promises.specs.Plain.{Call, mapAnswers, mapSet, libraryAnswers, held, emptyRegister, putsOf}
 
 -- Demand 2. The table of a set that fits is accepted as that set's register, and a register that is accepted is the table of a set that fits.
@@ -39,6 +39,18 @@ LookupReplies = (s k : ByteString) → LookupOrder (s .list) (k .list) (lookupRe
 abbrev pub ListReplies : Type 0
 ListReplies =
     (s : ByteString) (n room : ℕ) → ListOrder (s .list) n room (listReply (s .list) n room)
+
+abbrev pub AtOrAfterReplies : Type 0
+AtOrAfterReplies =
+    (s k : ByteString) (room : ℕ) → AtOrAfterOrder (s .list) (k .list) room (atOrAfterReply (s .list) (k .list) room)
+
+abbrev pub BeforeReplies : Type 0
+BeforeReplies = (s k : ByteString) (room : ℕ) → BeforeOrder (s .list) (k .list) room (beforeReply (s .list) (k .list) room)
+
+abbrev pub RunReplies : Type 0
+RunReplies =
+    (s first last : ByteString) (room : ℕ)
+    → RunOrder (s .list) (first .list) (last .list) room (runReply (s .list) (first .list) (last .list) room)
 
 abbrev pub PutReplies : Type 0
 PutReplies =

@@ -2,7 +2,8 @@
 use Prim.Native.Nat.{ℕ}
 use mathlib.Core.List.{List, [], _∷_}
 use Rattle.answer.specs.Answer.{Said, said, saidOfDifference}
-use Rattle.promises.specs.Outcome.{checkAnswer, lookupAnswer, listOutcome, listAnswer, listKey, listValue, Outcome, putOutcome, joinOutcome, removeOutcome, mergeOutcome, answerOf, outputOf}
+use Rattle.promises.specs.Outcome.{checkAnswer, lookupAnswer, Listed, listOutcome, listAnswer, listKey, listValue, Outcome, putOutcome, joinOutcome, removeOutcome, mergeOutcome, answerOf, outputOf}
+use Rattle.promises.specs.Range.{atOrAfterOutcome, beforeOutcome, runOutcome}
 use Rattle.promises.specs.Difference.{differenceOutcome, differenceAnswer, differenceOutput}
 
 -- An output: its length, and the bytes that stand in it after the call.
@@ -22,17 +23,28 @@ checkReply s = record { answer = said (checkAnswer s); outputs = [] }
 abbrev pub lookupReply : List ℕ → List ℕ → Reply
 lookupReply s k = record { answer = said (lookupAnswer s k); outputs = [] }
 
-abbrev pub listReply : List ℕ → ℕ → ℕ → Reply
-listReply s n room =
-    let o = listOutcome s n room in
+abbrev pub recordReply : Listed → ℕ → Reply
+recordReply o room =
     record {
       answer = said (listAnswer o);
       outputs = record { room = room; bytes = listKey o room } ∷ record { room = 32; bytes = listValue o } ∷ [];
     }
 
+abbrev pub listReply : List ℕ → ℕ → ℕ → Reply
+listReply s n room = recordReply (listOutcome s n room) room
+
+abbrev pub atOrAfterReply : List ℕ → List ℕ → ℕ → Reply
+atOrAfterReply s k room = recordReply (atOrAfterOutcome s k room) room
+
+abbrev pub beforeReply : List ℕ → List ℕ → ℕ → Reply
+beforeReply s k room = recordReply (beforeOutcome s k room) room
+
 abbrev pub writingReply : Outcome → ℕ → Reply
 writingReply o room =
     record { answer = said (answerOf o); outputs = record { room = room; bytes = outputOf o room } ∷ [] }
+
+abbrev pub runReply : List ℕ → List ℕ → List ℕ → ℕ → Reply
+runReply s first last room = writingReply (runOutcome s first last room) room
 
 abbrev pub putReply : List ℕ → List ℕ → List ℕ → ℕ → Reply
 putReply s k v room = writingReply (putOutcome s k v room) room

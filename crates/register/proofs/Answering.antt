@@ -1,6 +1,6 @@
 -- The answer of a lookup, by cases of the verdict, the key rule and the search.
 use Prim.Native.Nat.{ℕ, _+_, _^_, _≤_, _<_}
-use mathlib.Core.Path.{_≡_, refl, sym, ap, subst, _∙_}
+use mathlib.Core.Path.{_≡_, sym, ap, subst, _∙_}
 use mathlib.Core.Bool.{Bool, true, false, not}
 use mathlib.Core.Option.{none, some}
 use mathlib.Core.List.{List, [], _∷_, map}
@@ -93,6 +93,6 @@ module _ (s index : List ℕ) (m : Register) (w : RegisterSays s m index) where
         unfolding answerPlace
         answer-found position place p = ap (λ (x : Searched). answerPlace (placeFound x)) (sym p) ∙ answer-place
 
-        pub answer-absent : r ≡ Absent → Refused KeyAbsent ≡ lookupAnswer s k
+        pub answer-absent : (position : ℕ) → r ≡ Absent position → Refused KeyAbsent ≡ lookupAnswer s k
         unfolding answerPlace
-        answer-absent p = ap (λ (x : Searched). answerPlace (placeFound x)) (sym p) ∙ answer-place
+        answer-absent position p = ap (λ (x : Searched). answerPlace (placeFound x)) (sym p) ∙ answer-place

@@ -31,7 +31,7 @@ use Rattle.row.proofs.Rows.{records-length, accepted-short, word-small, accepte
 use Rattle.writer.specs.Output.{tableAnswer, tableOutput}
 use Rattle.promises.specs.Map.{find, remove}
 use Rattle.promises.specs.Outcome.{Outcome, stopped, placeOf, answerOf, outputOf, removeOutcome, mergeOutcome}
-use Rattle.row.specs.Search.{SearchSays}
+use Rattle.row.specs.Search.{PositionIs, SearchSays}
 use Rattle.choice.specs.Choice.{choiceOf, weave, wovenOf, RowOf, ChooseSays, Below, ToSecond, LeftOut, Single}
 use Rattle.register.specs.Writing.{written, setOutcome}
 use Rattle.choice.specs.declared.choose.Chosen.{Chosen}
@@ -106,10 +106,10 @@ pub lawful-no : (k : List ℕ) (ok : Bool) → ok ≡ lawful k → not ok ≡ tr
 lawful-no k ok e h = sym e ∙ not-right ok h
 
 module _ {s index : List ℕ} {count : ℕ} (a : Accepting s index count) where
-  abbrev t : SpeltTree
+  abbrev pub t : SpeltTree
   t = a .given .tree
 
-  sorted : Sorted (records t)
+  pub sorted : Sorted (records t)
   sorted = rising-sorted (records t) (accepted-table s (a .bytes) t (a .given .judged) .fit .order)
 
   pub short : length s < 2 ^ 24
@@ -118,7 +118,7 @@ module _ {s index : List ℕ} {count : ℕ} (a : Accepting s index count) where
   pub row-first : (u : List ℕ) → length u < 2 ^ 24 → Row s u index count
   row-first u = accepted-row s index t count (a .bytes) (a .given .judged) (a .given .indexed) (a .given .size) (a .fits) u
 
-  records-first : (u : List ℕ) → recordsOf s u index count ≡ records t
+  pub records-first : (u : List ℕ) → recordsOf s u index count ≡ records t
   records-first u = accepted-records s index t count (a .bytes) (a .given .judged) (a .given .indexed) (a .given .size) (a .fits) u
 
   -- ---- put and join
@@ -147,7 +147,7 @@ module _ {s index : List ℕ} {count : ℕ} (a : Accepting s index count) where
   -- ---- remove
   module _ (k : List ℕ) (r : Searched) (v : SearchSays s index count k r) where
     module _ (position place : ℕ) (e : r ≡ At position place) where
-      found : (position < length (records t)) × (getD (records t) position nothing .key ≡ k)
+      found : PositionIs k (records t) (At position place)
       unfolding SearchSays
       found = subst (λ (x : Searched). SearchSays s index count k x) e v t (a .given .judged) (a .given .size) (a .given .indexed) .1
 
@@ -186,9 +186,9 @@ module _ {s index : List ℕ} {count : ℕ} (a : Accepting s index count) where
         remove-done out l =
             remove-written s k out t (a .given .judged) l _ (find-at k nothing (records t) sorted position (found .0) (found .1))
 
-    pub absent-done : (out : ℕ) → lawful k ≡ true → r ≡ Absent → removeOutcome s k out ≡ stopped KeyAbsent
+    pub absent-done : (out : ℕ) → lawful k ≡ true → (position : ℕ) → r ≡ Absent position → removeOutcome s k out ≡ stopped KeyAbsent
     unfolding SearchSays
-    absent-done out l e =
+    absent-done out l position e =
         let nowhere = subst (λ (x : Searched). SearchSays s index count k x) e v t (a .given .judged) (a .given .size) (a .given .indexed) .0 in
         remove-absent s k out t (a .given .judged) l (not-found k (records t) (places 0 t) (places-length t) (sym nowhere))
 

@@ -5,3 +5,4 @@ pub mod Answering
 pub mod Writing
 pub mod Calls
 pub mod Differing
+pub mod Ranges

@@ -57,6 +57,19 @@ lawful-at (suc n) (r ∷ rs) d h e = lawful-at n rs d (omega arith) (and-inv (la
 abbrev pub ListSays : Listed → ℕ → Answer → List ℕ → List ℕ → Type 0
 ListSays outcome room r out value = (r ≡ listAnswer outcome) × ((out ≡ listKey outcome room) × (value ≡ listValue outcome))
 
+-- a refusal
+pub record-refused : {o : Listed} {r : Refusal} (room : ℕ) (answer : Answer) (out value : List ℕ) → o ≡ unlisted r → answer ≡ Refused r → out ≡ zeros room
+    → value ≡ zeros 32 → ListSays o room answer out value
+unfolding listAnswer listKey listValue
+record-refused room answer out value e h k v = (h ∙ rw e, (k ∙ rw e, v ∙ rw e))
+
+pub record-same : {o p : Listed} (room : ℕ) (answer : Answer) (out value : List ℕ) → p ≡ o → ListSays p room answer out value → ListSays o room answer out value
+record-same room answer out value e says = rw (← e) says
+
+pub listed-refused : (s : List ℕ) (n room : ℕ) {r : Refusal} → judge s ≡ refused r → listOutcome s n room ≡ unlisted r
+unfolding listOutcome listVerdict
+listed-refused s n room e = rw e
+
 module _ (room : ℕ) {out value : List ℕ} (o : out ≡ zeros room) (v : value ≡ zeros 32) where
   -- without a record both outputs are zero
   without-record : (outcome : Listed) → outcome ≡ pastTheEnd → ListSays outcome room (Done 0) out value
@@ -66,10 +79,6 @@ module _ (room : ℕ) {out value : List ℕ} (o : out ≡ zeros room) (v : value
   refused-with : {r : Refusal} (outcome : Listed) → outcome ≡ unlisted r → ListSays outcome room (Refused r) out value
   unfolding listAnswer listKey listValue
   refused-with outcome e = (rw e, (rw e o, rw e v))
-
-  pub list-refused : (s : List ℕ) (n : ℕ) {r : Refusal} → judge s ≡ refused r → ListSays (listOutcome s n room) room (Refused r) out value
-  unfolding listOutcome listVerdict
-  list-refused s n e = refused-with (listOutcome s n room) (rw e)
 
   pub list-past : {s index : List ℕ} {count : ℕ} (n : ℕ) → AcceptedIndex s index count → count ≤ n → ListSays (listOutcome s n room) room (Done 0) out value
   unfolding listOutcome listVerdict listRecord

@@ -1,10 +1,13 @@
 // The calls on registers.
 mod bytes; // bytes of outputs
+mod nth; // a single record as an answer
 mod differ; // the difference of two registers that are accepted
 mod write; // what the writing calls write
 
-use crate::bytes::copy_in;
 use crate::differ::differ;
+use crate::nth::beside;
+use crate::nth::give_nth;
+use crate::nth::refuse_record;
 use crate::write::refuse;
 use crate::write::write_chosen;
 use answer::Answer;
@@ -15,16 +18,21 @@ use choice::words::single;
 use choice::words::to_second;
 use index::Register;
 use index::judge;
+use key::order::Order;
+use key::order::compare;
 use key::rule::is_lawful;
 use row::bytes::value_at;
-use row::fetch::fetch_from;
 use row::search::Searched;
+use row::search::count_below;
+use row::search::count_up_to;
 use row::search::search;
 use writer::output::clear;
 use writer::write_table;
 ghost use mathlib.Core.Path.{_≡_};
 ghost use lib.ListN.{length};
+ghost use Rattle.key.specs.Key.{less};
 ghost use Rattle.promises.specs.Outcome.{checkAnswer, lookupAnswer, listOutcome, listAnswer, listKey, listValue, putOutcome, removeOutcome, joinOutcome, mergeOutcome, answerOf, outputOf};
+ghost use Rattle.promises.specs.Range.{atOrAfterOutcome, beforeOutcome, runOutcome};
 ghost use Rattle.promises.specs.Difference.{differenceOutcome, differenceAnswer, differenceOutput};
 ghost use Rattle.register.specs.Writing.{setOutcome};
 
@@ -52,7 +60,7 @@ pub fn lookup(register: &[u8], key: &[u8]) -> Answer
             }
             match search(register, &index, count, key) {
                 Searched::At(_, place) => Answer::Done(place as u32),
-                Searched::Absent => Answer::Refused(Refusal::KeyAbsent),
+                Searched::Absent(_) => Answer::Refused(Refusal::KeyAbsent),
             }
         }
         Register::Refused(refusal) => Answer::Refused(refusal),
@@ -66,29 +74,71 @@ pub fn list(register: &[u8], n: u64, out: &mut [u8], value: &mut [u8; 32]) -> An
     ensures key { λ _. ⌜ now (out .exit) ≡ listKey (listOutcome (now (register .entry)) n (length (now (out .entry)))) (length (now (out .entry))) ⌝ }
     ensures value { λ _. ⌜ now (value .exit) ≡ listValue (listOutcome (now (register .entry)) n (length (now (out .entry)))) ⌝ }
 {
-    clear(out);
-    *value = [0u8; 32];
     let mut index = [0u64; 4096];
     match judge(register, &mut index) {
         Register::Accepted(count) => {
             if count as u64 <= n {
+                clear(out);
+                *value = [0u8; 32];
                 return Answer::Done(0);
             }
-            let i = n as usize;
-            let mut buffer = [0u8; 256];
-            let found = fetch_from(register, index[i], &mut buffer, 0);
-            let size = found.size;
-            if 256 < size {
-                return Answer::Done(0);
-            }
-            if out.len() < size {
-                return Answer::Refused(Refusal::NoRoom);
-            }
-            copy_in(out, &buffer[..size]);
-            *value = value_at(register, found.value);
-            Answer::Done(size as u32)
+            give_nth(register, &index, count, n as usize, out, value)
         }
-        Register::Refused(refusal) => Answer::Refused(refusal),
+        Register::Refused(refusal) => refuse_record(out, value, refusal),
+    }
+}
+
+// Public call: the first record at or after a key, as list gives one.
+pub fn at_or_after(register: &[u8], key: &[u8], out: &mut [u8], value: &mut [u8; 32]) -> Answer
+    ensures answer { λ r. ⌜ r ≡ listAnswer (atOrAfterOutcome (now (register .entry)) (now (key .entry)) (length (now (out .entry)))) ⌝ }
+    ensures key { λ _. ⌜ now (out .exit) ≡ listKey (atOrAfterOutcome (now (register .entry)) (now (key .entry)) (length (now (out .entry)))) (length (now (out .entry))) ⌝ }
+    ensures value { λ _. ⌜ now (value .exit) ≡ listValue (atOrAfterOutcome (now (register .entry)) (now (key .entry)) (length (now (out .entry)))) ⌝ }
+{
+    beside(register, key, true, out, value)
+}
+
+// Public call: the last record before a key, as list gives one.
+pub fn before(register: &[u8], key: &[u8], out: &mut [u8], value: &mut [u8; 32]) -> Answer
+    ensures answer { λ r. ⌜ r ≡ listAnswer (beforeOutcome (now (register .entry)) (now (key .entry)) (length (now (out .entry)))) ⌝ }
+    ensures key { λ _. ⌜ now (out .exit) ≡ listKey (beforeOutcome (now (register .entry)) (now (key .entry)) (length (now (out .entry)))) (length (now (out .entry))) ⌝ }
+    ensures value { λ _. ⌜ now (value .exit) ≡ listValue (beforeOutcome (now (register .entry)) (now (key .entry)) (length (now (out .entry)))) ⌝ }
+{
+    beside(register, key, false, out, value)
+}
+
+// Whether a key is less than another.
+fn is_less(key: &[u8], other: &[u8]) -> bool
+    ensures { λ r. ⌜ r ≡ less (now (key .entry)) (now (other .entry)) ⌝ }
+{
+    match compare(key, other) {
+        Order::Less => true,
+        Order::Equal => false,
+        Order::Greater => false,
+    }
+}
+
+// Public call: the register of the records from a first key up to and including a last.
+pub fn run(register: &[u8], first: &[u8], last: &[u8], out: &mut [u8]) -> Answer
+    ensures answer { λ r. ⌜ r ≡ answerOf (runOutcome (now (register .entry)) (now (first .entry)) (now (last .entry)) (length (now (out .entry)))) ⌝ }
+    ensures output { λ _. ⌜ now (out .exit) ≡ outputOf (runOutcome (now (register .entry)) (now (first .entry)) (now (last .entry)) (length (now (out .entry)))) (length (now (out .entry))) ⌝ }
+{
+    let mut index = [0u64; 4096];
+    match judge(register, &mut index) {
+        Register::Accepted(count) => {
+            if !is_lawful(first) {
+                return refuse(out, Refusal::UnlawfulKey);
+            }
+            if !is_lawful(last) {
+                return refuse(out, Refusal::UnlawfulKey);
+            }
+            if is_less(last, first) {
+                return refuse(out, Refusal::FirstAfterLast);
+            }
+            let low = count_below(register, &index, count, first);
+            let high = count_up_to(register, &index, count, last);
+            write_table(register, register, &index[low..high], high - low, out)
+        }
+        Register::Refused(refusal) => refuse(out, refusal),
     }
 }
 
@@ -149,7 +199,7 @@ pub fn remove(register: &[u8], key: &[u8], out: &mut [u8]) -> Answer
                     leave_out(&mut index, count, position);
                     write_table(register, register, &index, count - 1, out)
                 }
-                Searched::Absent => refuse(out, Refusal::KeyAbsent),
+                Searched::Absent(_) => refuse(out, Refusal::KeyAbsent),
             }
         }
         Register::Refused(refusal) => refuse(out, refusal),

@@ -2,4 +2,5 @@ pub mod Copying
 pub mod Ways
 pub mod Rows
 pub mod Memories
+pub mod Counting
 pub mod Searching

@@ -1,9 +1,10 @@
--- The place of a key's value, by halves of the index.
+-- Where a key stands among the records of an index, by halves of it.
 use Prim.Native.Nat.{ℕ, zero, suc, _+_, _-_, _/_, _≤_, _<_}
 use mathlib.Core.Path.{_≡_, refl, sym, ap, subst, _∙_}
 use mathlib.Core.Bool.{true, false}
 use mathlib.Core.Option.{none, some}
 use mathlib.Core.List.{List, [], _∷_}
+use native.Mathlib.Numerals.{add-one}
 use native.Mathlib.Omega.{arith}
 use lib.ListN.{length, take, getD, length-map}
 use lib.Dec.{leb}
@@ -13,7 +14,7 @@ use Rattle.fips180.specs.Bytes.{Bytes}
 use Rattle.key.specs.Key.{lawful, less, order}
 use Rattle.key.specs.declared.order.Order.{Order}
 use Rattle.key.specs.declared.order.Order.the-variants.{Less, Equal, Greater}
-use Rattle.key.proofs.Laws.{lawful-length, less-irreflexive, less-transitive, less-asymmetric, order-less, order-equal, order-greater}
+use Rattle.key.proofs.Laws.{lawful-length, less-irreflexive, less-transitive, less-asymmetric, less-same, order-less, order-equal, order-greater}
 use Rattle.page.proofs.Tools.{and-inv}
 use Rattle.tree.specs.Record.{Record, records}
 use Rattle.tree.specs.Table.{SpeltTree}
@@ -31,8 +32,10 @@ use Rattle.row.specs.Row.{nothing}
 use Rattle.row.specs.Fetch.{Fetched, FetchSays}
 use Rattle.row.specs.declared.fetch.Found.{Found}
 use Rattle.row.proofs.Memories.{no-note}
-use Rattle.row.specs.Search.{keyAt, SearchSays}
+use Rattle.row.specs.Search.{keyAt, countBelow, countUpTo, PositionFits, SearchSays, CountSays}
+use Rattle.row.specs.declared.search.Searched.{Searched}
 use Rattle.row.specs.declared.search.Searched.the-variants.{At, Absent}
+use Rattle.row.proofs.Counting.{below-ends, up-to-ends}
 
 -- ---- the keys of a row of records
 rising-rest : (r : Record) (rs : List Record) → rising (r ∷ rs) ≡ true → rising rs ≡ true
@@ -89,6 +92,30 @@ place-absent k (r ∷ rs) (p ∷ ps) (suc low) h b =
     (place-absent k rs ps low (omega arith)
     (record { below = λ i g. b .below (suc i) (omega arith); above = λ i g l. b .above (suc i) (omega arith) (omega arith) }))
 
+-- ---- the counts of records before a key and up to it
+-- where no record has the key
+counts-absent : (k : List ℕ) (rs : List Record) (low : ℕ) → low ≤ length rs → Between k rs low low → (low ≡ countBelow k rs) × (low ≡ countUpTo k rs)
+counts-absent k rs low h b = (
+  below-ends k rs low h (b .below) (λ l. less-asymmetric k (keyAt rs low) (b .above low (omega arith) l)),
+  up-to-ends k rs low h (λ i l. less-asymmetric (keyAt rs i) k (b .below i l)) (b .above low (omega arith)),
+)
+
+-- where the record at i has it
+module _ (k : List ℕ) (rs : List Record) (order : rising rs ≡ true) (i : ℕ) (h : i < length rs) (q : keyAt rs i ≡ k) where
+  before-there : (j : ℕ) → j < i → less (keyAt rs j) k ≡ true
+  before-there j g = rw (← q) (rising-at rs order j i g h)
+
+  below-there : i ≡ countBelow k rs
+  below-there = below-ends k rs i (omega arith) before-there (λ l. less-same (keyAt rs i) k q)
+
+  up-to-there : suc i ≡ countUpTo k rs
+  up-to-there =
+      up-to-ends k rs (suc i) h
+      (λ j g. cases (leb i j)
+      (λ e. let same : j ≡ i = omega (arith, leb-true i j e) in rw same (less-same k (keyAt rs i) (sym q)))
+      (λ e. less-asymmetric (keyAt rs j) k (before-there j (leb-false i j e))))
+      (λ l. rw (← q) (rising-at rs order i (suc i) (omega arith) l))
+
 -- ---- the ways that a turn of the loop goes
 unfoldable pub Narrowed : List ℕ → List ℕ → ℕ → List ℕ → ℕ → ℕ → Type 0
 Narrowed s index count k low high =
@@ -100,11 +127,12 @@ module _ (s index : List ℕ) (count : ℕ) (k : List ℕ) where
   search-begins t a c x = record { below = λ i g. absurd (omega arith); above = λ i g l. absurd (omega arith) }
 
   module _ (low high : ℕ) (u : Narrowed s index count k low high) (within : high ≤ count) where
-    pub search-ends : low ≤ high → high ≤ low → SearchSays s index count k Absent
+    pub search-ends : low ≤ high → high ≤ low → SearchSays s index count k (Absent low)
     unfolding Narrowed SearchSays
     search-ends h g t a c x =
         let same : high ≡ low = omega arith in
-        (sym (place-absent k (records t) (places 0 t) low (omega arith) (subst (Between k (records t) low) same (u t a c x))), tt)
+        let b = subst (Between k (records t) low) same (u t a c x) in
+        (sym (place-absent k (records t) (places 0 t) low (omega arith) b), counts-absent k (records t) low (omega arith) b)
 
     abbrev middle : ℕ
     middle = low + (high - low) / 2
@@ -170,9 +198,9 @@ module _ (s index : List ℕ) (count : ℕ) (k : List ℕ) where
         met q =
             ap some value
             ∙ sym (place-there k (records t) (places 0 t) places-length middle (omega arith)
-            (λ j g. subst (λ (l : List ℕ). less (keyAt (records t) j) l ≡ true) q (rising-at (records t) (fit .order) j middle g (omega arith))) q)
+            (before-there k (records t) (fit .order) middle (omega arith) q) q)
 
-      pub search-over : 256 < found .size → SearchSays s index count k Absent
+      pub search-over : 256 < found .size → SearchSays s index count k (Absent low)
       unfolding SearchSays
       search-over h t a c x = absurd (omega (arith, short t a c x))
 
@@ -193,4 +221,31 @@ module _ (s index : List ℕ) (count : ℕ) (k : List ℕ) where
         unfolding SearchSays
         search-meets q t a c x =
             let same = sym (key-held t a c x) ∙ order-equal (take (found .size) buffer) k (sym e ∙ q) in
-            (met t a c x same, (omega arith, same))
+            (met t a c x same, (omega arith, same, below-there k (records t) (fit t a c x .order) middle (omega arith) same))
+
+-- ---- the counts, from what the search ensures
+module _ (count : ℕ) (r : Searched) (v : PositionFits count r) where
+  pub found-fits : (position place : ℕ) → r ≡ At position place → position < count
+  found-fits position place e = rw e at v
+
+  pub absent-fits : (position : ℕ) → r ≡ Absent position → position ≤ count
+  absent-fits position e = rw e at v
+
+module _ (s index : List ℕ) (count : ℕ) (k : List ℕ) (r : Searched) (v : SearchSays s index count k r) where
+  pub below-found : (position place : ℕ) → r ≡ At position place → CountSays (countBelow k) s index count position
+  unfolding SearchSays CountSays
+  below-found position place e t a c x = (rw e at v) t a c x .1 .2
+
+  pub below-absent : (position : ℕ) → r ≡ Absent position → CountSays (countBelow k) s index count position
+  unfolding SearchSays CountSays
+  below-absent position e t a c x = (rw e at v) t a c x .1 .0
+
+  pub up-to-found : Bytes s → (position place : ℕ) → r ≡ At position place → CountSays (countUpTo k) s index count (position + 1)
+  unfolding SearchSays CountSays
+  up-to-found bytes position place e t a c x =
+      let found = (rw e at v) t a c x .1 in
+      rw (add-one position) (up-to-there k (records t) (accepted-table s bytes t a .fit .order) position (found .0) (found .1))
+
+  pub up-to-absent : (position : ℕ) → r ≡ Absent position → CountSays (countUpTo k) s index count position
+  unfolding SearchSays CountSays
+  up-to-absent position e t a c x = (rw e at v) t a c x .1 .1

@@ -1,9 +1,11 @@
--- What the search for a key says: contracts inside this crate cite it, and no public contract does.
-use Prim.Native.Nat.{ℕ, _<_}
+-- What the search for a key and the counts beside it say: contracts inside the library cite it, and no public contract does.
+use Prim.Native.Nat.{ℕ, suc, _≤_, _<_}
 use mathlib.Core.Path.{_≡_}
+use mathlib.Core.Bool.{cond}
 use mathlib.Core.Option.{Option, none, some}
-use mathlib.Core.List.{List}
+use mathlib.Core.List.{List, [], _∷_}
 use lib.ListN.{length, getD}
+use Rattle.key.specs.Key.{less}
 use Rattle.index.specs.Slot.{slots}
 use Rattle.index.specs.Walk.{Indexes}
 use Rattle.tree.specs.Record.{Record, records}
@@ -17,18 +19,42 @@ use Rattle.row.specs.declared.search.Searched.the-variants.{At, Absent}
 
 abbrev pub placeFound : Searched → Option ℕ
 placeFound (At position place) = some place
-placeFound Absent = none
+placeFound (Absent position) = none
 
 abbrev pub keyAt : List Record → ℕ → List ℕ
 keyAt rs i = getD rs i nothing .key
 
--- At the position found stands a record with the key.
+-- How many records at the front have a key less than k.
+unfoldable pub countBelow : List ℕ → List Record → ℕ
+countBelow k [] = 0
+countBelow k (x ∷ m) =
+    let more : ℕ = suc (countBelow k m) in
+    cond (less (x .key) k) more 0
+
+-- How many records at the front have a key not greater than k.
+unfoldable pub countUpTo : List ℕ → List Record → ℕ
+countUpTo k [] = 0
+countUpTo k (x ∷ m) =
+    let more : ℕ = suc (countUpTo k m) in
+    cond (less k (x .key)) 0 more
+
+-- At the position found stands a record with the key; where there is none, the position is the number of records before the key.
 abbrev pub PositionIs : List ℕ → List Record → Searched → Type 0
-PositionIs k rs (At position place) = (position < length rs) × (keyAt rs position ≡ k)
-PositionIs k rs Absent = Unit {0}
+PositionIs k rs (At position place) = (position < length rs) × (keyAt rs position ≡ k) × (position ≡ countBelow k rs)
+PositionIs k rs (Absent position) = (position ≡ countBelow k rs) × (position ≡ countUpTo k rs)
 
 -- In the index of an accepted register the place of the key's value is found, and the position of its record.
 unfoldable pub SearchSays : List ℕ → List ℕ → ℕ → List ℕ → Searched → Type 0
 SearchSays s index count k r =
     (t : SpeltTree) → judge s ≡ accepted t → count ≡ length (records t) → Indexes index (slots 0 0 t)
     → (placeFound r ≡ placeOf k (records t) (places 0 t)) × PositionIs k (records t) r
+
+-- Whatever the register and the index hold, the position is within the words searched.
+abbrev pub PositionFits : ℕ → Searched → Type 0
+PositionFits count (At position place) = position < count
+PositionFits count (Absent position) = position ≤ count
+
+-- In the index of an accepted register r is what `counted` gives of the records.
+unfoldable pub CountSays : (List Record → ℕ) → List ℕ → List ℕ → ℕ → ℕ → Type 0
+CountSays counted s index count r =
+    (t : SpeltTree) → judge s ≡ accepted t → count ≡ length (records t) → Indexes index (slots 0 0 t) → r ≡ counted (records t)

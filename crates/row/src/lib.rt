@@ -2,4 +2,4 @@
 pub mod fetch; // a record, from its word in the index
 pub mod recall; // a record of a row, from where its page was left
 pub mod bytes; // values
-pub mod search; // the place of a key's value, by halves of an index
+pub mod search; // where a key stands, by halves of an index

@@ -3,7 +3,9 @@
 //! An output is zero where the call is refused, and zero after what is written.
 
 use crate::key::lawful;
-use crate::number::{KEY_ABSENT, NO_ROOM, TOO_MANY_RECORDS, UNLAWFUL_KEY, VALUE_LENGTH};
+use crate::number::{
+    FIRST_AFTER_LAST, KEY_ABSENT, NO_ROOM, TOO_MANY_RECORDS, UNLAWFUL_KEY, VALUE_LENGTH,
+};
 use crate::reader::{judge, ReadPage, Record};
 use crate::{sha256, table, Digest, Set, Value, LONGEST, MOST_RECORDS};
 use std::collections::HashSet;
@@ -35,15 +37,46 @@ pub fn list(register: &[u8], n: u64, out: &mut [u8], value: &mut Value) -> Resul
     value.fill(0);
     let records = judge(register)?.records;
     let record = usize::try_from(n).ok().and_then(|n| records.get(n));
-    let Some(record) = record else {
-        return Ok(0);
-    };
-    let length = record.key.len();
-    out.get_mut(..length)
-        .ok_or(NO_ROOM)?
-        .copy_from_slice(&record.key);
-    *value = *record.value;
-    Ok(length)
+    match record {
+        Some(record) => write_record(record, out, value),
+        None => Ok(0),
+    }
+}
+
+/// Writes the key and the value of the first record at or after the key. Gives the length of the
+/// record's key.
+pub fn at_or_after(
+    register: &[u8],
+    key: &[u8],
+    out: &mut [u8],
+    value: &mut Value,
+) -> Result<usize, u8> {
+    out.fill(0);
+    value.fill(0);
+    let records = judge(register)?.records;
+    lawful_key(key)?;
+    let found = records.iter().find(|record| record.key.as_slice() >= key);
+    write_record(found.ok_or(KEY_ABSENT)?, out, value)
+}
+
+/// Writes the key and the value of the last record before the key. Gives the length of the
+/// record's key.
+pub fn before(register: &[u8], key: &[u8], out: &mut [u8], value: &mut Value) -> Result<usize, u8> {
+    out.fill(0);
+    value.fill(0);
+    let records = judge(register)?.records;
+    lawful_key(key)?;
+    let mut from_the_last = records.iter().rev();
+    let found = from_the_last.find(|record| record.key.as_slice() < key);
+    write_record(found.ok_or(KEY_ABSENT)?, out, value)
+}
+
+/// Writes the register of the records from the first key up to and including the last. Gives the
+/// table's length.
+pub fn run(register: &[u8], first: &[u8], last: &[u8], out: &mut [u8]) -> Result<usize, u8> {
+    out.fill(0);
+    let set = judge(register)?.set();
+    write(&run_of(set, first, last)?, out)
 }
 
 /// Writes the register in which the key has the value. Gives the table's length.
@@ -124,6 +157,17 @@ fn digest_of(page: &ReadPage) -> Digest {
     }
 }
 
+/// Takes the records from the first key up to and including the last out of a set.
+pub fn run_of(mut set: Set, first: &[u8], last: &[u8]) -> Result<Set, u8> {
+    lawful_key(first)?;
+    lawful_key(last)?;
+    if first > last {
+        return Err(FIRST_AFTER_LAST);
+    }
+    set.retain(|key, _| first <= key.as_slice() && key.as_slice() <= last);
+    Ok(set)
+}
+
 /// Puts a record into a set.
 pub fn put_in(mut set: Set, key: &[u8], value: &[u8]) -> Result<Set, u8> {
     lawful_key(key)?;
@@ -181,6 +225,16 @@ fn write(set: &Set, out: &mut [u8]) -> Result<usize, u8> {
     let table = result_table(set, out.len())?;
     out[..table.len()].copy_from_slice(&table);
     Ok(table.len())
+}
+
+/// Writes the key and the value of a record into outputs of zeros. Gives the key's length.
+fn write_record(record: &Record, out: &mut [u8], value: &mut Value) -> Result<usize, u8> {
+    let length = record.key.len();
+    out.get_mut(..length)
+        .ok_or(NO_ROOM)?
+        .copy_from_slice(&record.key);
+    *value = *record.value;
+    Ok(length)
 }
 
 /// Number 7 for a key argument.

@@ -3,7 +3,7 @@
 //! The tests and benches of `mijdegen` compare the library with this crate, so it shares no code
 //! with the library and does not link it. It is written to be read, not to be fast.
 //!
-//! A refused call gives its number, from 1 to 13; [`number`] names them.
+//! A refused call gives its number, from 1 to 14; [`number`] names them.
 
 #![forbid(unsafe_code)]
 #![warn(missing_docs)]
@@ -17,8 +17,8 @@ mod table;
 pub mod tree;
 
 pub use calls::{
-    check, difference, join, join_in, list, lookup, merge, merge_in, put, put_in, remove,
-    remove_from, result_table, set_of,
+    at_or_after, before, check, difference, join, join_in, list, lookup, merge, merge_in, put,
+    put_in, remove, remove_from, result_table, run, run_of, set_of,
 };
 pub use key::{lawful, layer, LONGEST_KEY};
 pub use sha256::sha256;

@@ -23,7 +23,10 @@ pub const WRONG_TREE: u8 = 9;
 pub const WRONG_DIGEST: u8 = 10;
 /// A value argument is not 32 bytes.
 pub const VALUE_LENGTH: u8 = 11;
-/// The key is absent, for lookup and remove.
+/// The key is absent, for lookup and remove; no record lies at or after the key, or before it.
 pub const KEY_ABSENT: u8 = 12;
-/// The result's table (for list, the key) is longer than the output, or than 4,194,304 bytes.
+/// The result's table (where a record is given, its key) is longer than the output, or than
+/// 4,194,304 bytes.
 pub const NO_ROOM: u8 = 13;
+/// The first key is greater than the last.
+pub const FIRST_AFTER_LAST: u8 = 14;

@@ -1,8 +1,8 @@
 //! The writing calls and the reading calls against plain work on sets.
 
 use independent::{
-    check, difference, join, layer, list, lookup, merge, pages, put, remove, set_of, sha256, table,
-    tree, tree_of, Digest, Set, Value,
+    at_or_after, before, check, difference, join, layer, list, lookup, merge, pages, put, remove,
+    run, set_of, sha256, table, tree, tree_of, Digest, Set, Value,
 };
 use std::collections::BTreeSet;
 
@@ -81,6 +81,76 @@ fn lookup_and_list() {
             assert_eq!(list(&register, n, &mut [], &mut listed), Ok(0));
         }
     }
+}
+
+/// Calls with an output of 10 bytes for the key. Gives the record, after a check that zeros follow
+/// the key, or that all is zero where the call is refused.
+fn given(
+    call: impl FnOnce(&mut [u8], &mut Value) -> Result<usize, u8>,
+) -> Result<(Vec<u8>, Value), u8> {
+    let (mut out, mut value) = ([0xaa; 10], [0xaa; 32]);
+    let length = call(&mut out, &mut value);
+    let end = *length.as_ref().unwrap_or(&0);
+    assert!(out[end..].iter().all(|byte| *byte == 0));
+    assert!(length.is_ok() || value == [0; 32]);
+    length.map(|length| (out[..length].to_vec(), value))
+}
+
+/// The records beside a key, by the number of lesser keys in the set.
+#[test]
+fn records_at_or_after_and_before() {
+    let mut random = Random(6);
+    let (mut found, mut absent) = (0, 0);
+    for _ in 0..100 {
+        let set = random.set(30);
+        let register = table(&set);
+        let records: Vec<(Vec<u8>, Value)> = set.clone().into_iter().collect();
+        // 60 keys, present and not.
+        for number in 0..60 {
+            let key = format!("few/{number}").into_bytes();
+            let lesser = records.iter().filter(|(other, _)| *other < key).count();
+            let next = records.get(lesser).cloned().ok_or(12);
+            let last = lesser.checked_sub(1).map(|n| records[n].clone()).ok_or(12);
+            for expected in [&next, &last] {
+                found += usize::from(expected.is_ok());
+                absent += usize::from(expected.is_err());
+            }
+
+            let result = given(|out, value| at_or_after(&register, &key, out, value));
+            assert_eq!(result, next);
+            let result = given(|out, value| before(&register, &key, out, value));
+            assert_eq!(result, last);
+        }
+    }
+    assert_eq!(found + absent, 100 * 60 * 2);
+    assert!(absent > 500);
+}
+
+/// Runs between any two keys, built record by record.
+#[test]
+fn runs_of_records() {
+    let mut random = Random(7);
+    let (mut done, mut refused) = (0, 0);
+    for _ in 0..1_000 {
+        let set = random.set(60);
+        let register = table(&set);
+        let (first, last) = (random.key(), random.key());
+        let result = written(|out| run(&register, &first, &last, out));
+        if first > last {
+            assert_eq!(result, Err(14));
+            refused += 1;
+            continue;
+        }
+        let mut between = Set::new();
+        for (key, value) in &set {
+            if *key >= first && *key <= last {
+                between.insert(key.clone(), *value);
+            }
+        }
+        assert_eq!(result, Ok(table(&between)));
+        done += 1;
+    }
+    assert!(done > 300 && refused > 300);
 }
 
 /// Random calls one after the other, against a set that is changed by hand.

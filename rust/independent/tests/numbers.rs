@@ -1,13 +1,16 @@
 //! The scope's small example of each number, and how numbers go before one another.
 
 use independent::{
-    check, difference, join, list, lookup, merge, put, remove, sha256, table, Set, Value, LONGEST,
-    MOST_RECORDS,
+    at_or_after, before, check, difference, join, list, lookup, merge, put, remove, run, sha256,
+    table, Set, Value, LONGEST, MOST_RECORDS,
 };
 
 const EMPTY: [u8; 7] = [0xa2, 0x61, 0x65, 0x80, 0x61, 0x6c, 0xf6];
 
 const VALUE: Value = [0x11; 32];
+
+/// A call that gives a record beside a key.
+type Beside = fn(&[u8], &[u8], &mut [u8], &mut Value) -> Result<usize, u8>;
 
 /// Writes a link, or null.
 fn link(digest: Option<[u8; 32]>) -> Vec<u8> {
@@ -130,6 +133,11 @@ fn number_7() {
         assert_eq!(put(&EMPTY, key, &[1; 31], &mut [0; 100]), Err(7));
         assert_eq!(join(&EMPTY, key, &[1; 31], &mut [0; 100]), Err(7));
         assert_eq!(remove(&EMPTY, key, &mut []), Err(7));
+        assert_eq!(at_or_after(&EMPTY, key, &mut [], &mut [0; 32]), Err(7));
+        assert_eq!(before(&EMPTY, key, &mut [], &mut [0; 32]), Err(7));
+        assert_eq!(run(&EMPTY, key, b"-/-", &mut []), Err(7));
+        assert_eq!(run(&EMPTY, b"~/~", key, &mut []), Err(7));
+        assert_eq!(run(&EMPTY, key, key, &mut []), Err(7));
     }
 }
 
@@ -212,6 +220,15 @@ fn number_12() {
     assert_eq!(place, register.len() - 3 - 32);
     assert_eq!(lookup(&register, b"a/b2"), Ok(29));
     assert_eq!(register[29..61], VALUE);
+
+    let mut value = [0xaa; 32];
+    for (register, key) in [(&EMPTY[..], &b"a/b1"[..]), (&register, b"a/b3")] {
+        assert_eq!(at_or_after(register, key, &mut [], &mut value), Err(12));
+        assert_eq!(value, [0; 32]);
+    }
+    for (register, key) in [(&EMPTY[..], &b"a/b1"[..]), (&register, b"a/b1")] {
+        assert_eq!(before(register, key, &mut [], &mut value), Err(12));
+    }
 }
 
 #[test]
@@ -232,6 +249,36 @@ fn number_13() {
     let mut value = [0xaa; 32];
     assert_eq!(list(&register, 0, &mut [0; 3], &mut value), Err(13));
     assert_eq!(value, [0; 32]);
+
+    let calls: [(Beside, &[u8]); 2] = [(at_or_after, b"a/b0"), (before, b"a/b2")];
+    for (call, key) in calls {
+        let (mut out, mut value) = ([0xaa; 4], [0xaa; 32]);
+        assert_eq!(call(&register, key, &mut out[..3], &mut value), Err(13));
+        assert_eq!((out, value), ([0, 0, 0, 0xaa], [0; 32]));
+        assert_eq!(call(&register, key, &mut out, &mut value), Ok(4));
+        assert_eq!((out, value), (*b"a/b1", VALUE));
+    }
+
+    assert_eq!(run(&register, b"a/b1", b"a/b1", &mut out[..63]), Err(13));
+    assert!(out[..63].iter().all(|byte| *byte == 0));
+    assert_eq!(run(&register, b"a/b1", b"a/b1", &mut out), Ok(64));
+    assert_eq!(out, register);
+    assert_eq!(run(&register, b"a/b2", b"a/b3", &mut out[..6]), Err(13));
+    assert_eq!(run(&register, b"a/b2", b"a/b3", &mut out[..7]), Ok(7));
+    assert_eq!(out[..7], EMPTY);
+}
+
+#[test]
+fn number_14() {
+    let register = two_pages();
+    let mut out = [0xaa; 10];
+    assert_eq!(run(&register, b"a/b2", b"a/b1", &mut out), Err(14));
+    assert_eq!(out, [0; 10]);
+    // A key stands before every longer key that begins with it.
+    assert_eq!(run(&register, b"a/b10", b"a/b1", &mut out), Err(14));
+    assert_eq!(run(&register, b"a/b2", b"a/b10", &mut out), Err(14));
+    assert_eq!(run(&register, b"a/b3", b"a/b30", &mut out), Ok(7));
+    assert_eq!(run(&register, b"a/b3", b"a/b3", &mut out), Ok(7));
 }
 
 /// From the root down, 129 pages may follow one another.
@@ -323,4 +370,34 @@ fn order_over_two_registers() {
     assert_eq!(put(&EMPTY, b"a/b1", &VALUE, &mut []), Err(13));
     assert_eq!(lookup(&tenth, b"ab"), Err(10));
     assert_eq!(list(&tenth, 0, &mut [], &mut [0; 32]), Err(10));
+}
+
+/// Register, key, absence, output; and register, first key, last key, 14, output.
+#[test]
+fn order_of_keys() {
+    let tenth = {
+        let mut register = two_pages();
+        let root = register.len() - 64;
+        register[root - 1] ^= 1;
+        register
+    };
+    for call in [at_or_after, before] {
+        let number = |register: &[u8], key: &[u8]| call(register, key, &mut [], &mut [0; 32]);
+        assert_eq!(number(&tenth, b"ab"), Err(10));
+        assert_eq!(number(&EMPTY, b"ab"), Err(7));
+        assert_eq!(number(&EMPTY, b"a/b1"), Err(12));
+    }
+    let register = two_pages();
+    assert_eq!(
+        at_or_after(&register, b"a/b2", &mut [], &mut [0; 32]),
+        Err(13)
+    );
+    assert_eq!(before(&register, b"a/b2", &mut [], &mut [0; 32]), Err(13));
+
+    assert_eq!(run(&tenth, b"b/", b"a/", &mut []), Err(10));
+    assert_eq!(run(&tenth, b"b/b", b"a/a", &mut []), Err(10));
+    assert_eq!(run(&register, b"b/", b"a/a", &mut []), Err(7));
+    assert_eq!(run(&register, b"b/b", b"a/", &mut []), Err(7));
+    assert_eq!(run(&register, b"b/b", b"a/a", &mut []), Err(14));
+    assert_eq!(run(&register, b"a/a", b"b/b", &mut []), Err(13));
 }

@@ -1,8 +1,10 @@
-//! The C functions with a watch on their buffers, and the comparison of the three reading calls
+//! The C functions with a watch on their buffers, and the comparison of check, lookup and list
 //! with the crate `independent`.
 
 use super::forge::EMPTY;
 use super::hexadecimal;
+use super::neighbours::{expect_record, Neighbour, NEIGHBOURS};
+use super::sets::{greatest_key, least_key};
 use super::writes::{expect_refusal, expect_table, Call};
 use independent::sha256;
 use mijdegen::{check, list, lookup, lookup_place, Listed, Refusal};
@@ -21,6 +23,34 @@ extern "C" {
         out: *mut u8,
         out_len: usize,
         value: *mut u8,
+    ) -> u64;
+    pub fn mijdegen_at_or_after(
+        reg: *const u8,
+        reg_len: usize,
+        key: *const u8,
+        key_len: usize,
+        out: *mut u8,
+        out_len: usize,
+        value: *mut u8,
+    ) -> u64;
+    pub fn mijdegen_before(
+        reg: *const u8,
+        reg_len: usize,
+        key: *const u8,
+        key_len: usize,
+        out: *mut u8,
+        out_len: usize,
+        value: *mut u8,
+    ) -> u64;
+    pub fn mijdegen_run(
+        reg: *const u8,
+        reg_len: usize,
+        first: *const u8,
+        first_len: usize,
+        last: *const u8,
+        last_len: usize,
+        out: *mut u8,
+        out_len: usize,
     ) -> u64;
     pub fn mijdegen_put(
         reg: *const u8,
@@ -180,8 +210,8 @@ impl Surrounded {
 }
 
 /// Compares check, lookup and list with the independent crate, by the safe and by the C
-/// functions. Looks at the writing calls as well, as far as they judge the register. Gives the
-/// number that is due on the register, or 0 where it is accepted.
+/// functions. Looks at the other calls that take a register as well, as far as they judge it. Gives
+/// the number that is due on the register, or 0 where it is accepted.
 pub fn number_of(register: &[u8]) -> u8 {
     let expected = independent::check(register);
     let found = check(register).map_err(Refusal::number);
@@ -204,7 +234,7 @@ pub fn number_of(register: &[u8]) -> u8 {
 /// All calls refuse the register with the number, whatever else they are given, and the outputs
 /// are zero.
 fn compare_refused(register: &[u8], number: u8) {
-    let refusal = Refusal::from_number(number).expect("a number from 1 to 13");
+    let refusal = Refusal::from_number(number).expect("a number from 1 to 14");
     assert_eq!(lookup(register, b"a/b1"), Err(refusal), "a lawful key");
     assert_eq!(lookup(register, b"ab"), Err(refusal), "an unlawful key");
     let mut out = [0xaa; 5];
@@ -219,8 +249,15 @@ fn compare_refused(register: &[u8], number: u8) {
         assert_eq!(raw_list(&mut lent, n, length), zeros, "record {n}");
     }
 
-    // The writing calls take turns, and each is handed another fault that comes later.
+    // The other calls take turns, and each is handed another fault that comes later.
+    let turn = NEIGHBOURS[register.len() % 2];
+    let key: &[u8] = match register.len() / 2 % 2 {
+        0 => b"a/b1",
+        _ => b"ab",
+    };
+    expect_record(register, turn, key, register.len() % 100, Err(number));
     let calls = [
+        Call::run(b"b/b1", b"a/b1"),
         Call::put(b"ab", b""),
         Call::join(b"a/b1", &[0x11; 31]),
         Call::remove(b"a/b1"),
@@ -237,8 +274,9 @@ fn compare_refused(register: &[u8], number: u8) {
     expect_refusal(&EMPTY, &second, 7, number);
 }
 
-/// The last record is found and listed, in all but large registers also the first and the middle
-/// one, and the register is the one of its set and the one that the library writes.
+/// The last record is found and listed, alone and beside the one before it, in all but large
+/// registers also the first and the middle one; and the register is the one of its set and the one
+/// that the library writes.
 fn compare_accepted(register: &[u8], count: usize) {
     let set = independent::set_of(register).expect("the register is accepted");
     assert_eq!(set.len(), count);
@@ -255,6 +293,10 @@ fn compare_accepted(register: &[u8], count: usize) {
         assert_eq!(lookup(register, key), Ok(*value));
         let listed = raw_list(&mut lent, *n as u64, key.len());
         assert_eq!(listed, (256 * key.len() as u64, key.to_vec(), **value));
+        let record: Result<_, u8> = Ok((key.as_slice(), *value));
+        expect_record(register, Neighbour::AtOrAfter, key, key.len(), record);
+        let record = Neighbour::Before.by_set(&set, key);
+        expect_record(register, Neighbour::Before, key, 256, record);
     }
     assert_eq!(
         raw_list(&mut lent, count as u64, 4),
@@ -264,6 +306,9 @@ fn compare_accepted(register: &[u8], count: usize) {
     assert_eq!(found.is_ok(), set.contains_key(&b"a/b1"[..]));
     assert_eq!(compare_lookup(register, b"ab"), Err(7));
 
+    // The run of all keys is written anew.
+    let all = Call::run(&least_key(), &greatest_key());
+    expect_table(register, &all, register.len(), register);
     // Merged with itself it is written anew, and it lacks nothing of itself: no page is opened.
     expect_table(register, &Call::merge(register), register.len(), register);
     expect_table(register, &Call::difference(register), 7, &EMPTY);

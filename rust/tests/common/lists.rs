@@ -187,8 +187,11 @@ pub fn full_set(kind: Kind) -> (Set, Source) {
 }
 
 /// Changes a byte of the register, cuts it or adds a byte. Sometimes the byte is one of a value
-/// in the root, and the register stays accepted.
+/// in the root, and the register stays accepted. What was cut to nothing stays so.
 pub fn damaged(random: &mut Random, mut register: Vec<u8>) -> Vec<u8> {
+    if register.is_empty() {
+        return register;
+    }
     let place = random.below(register.len());
     match random.below(8) {
         0 => register.truncate(place),

@@ -1,7 +1,7 @@
 //! Sets of records of several kinds.
 
 use super::Random;
-use independent::{lawful, layer, Set, LONGEST};
+use independent::{lawful, layer, Set, LONGEST, LONGEST_KEY};
 
 /// The counts of records that the tests try.
 pub const COUNTS: [usize; 8] = [0, 1, 2, 3, 10, 100, 1_000, 4_096];
@@ -65,7 +65,7 @@ pub const HIGH: [&str; 17] = [
     "layer/0000009285",
 ];
 
-/// The bytes that may stand beside the slash.
+/// The bytes that may stand beside the slash, in their order.
 const PLAIN: &[u8] = b"-.0123456789:ABCDEFGHIJKLMNOPQRSTUVWXYZ_abcdefghijklmnopqrstuvwxyz~";
 
 /// Gives a set of so many records of this kind, the same in every run. The values are random, so
@@ -206,6 +206,51 @@ pub fn unlawful_keys() -> Vec<Vec<u8>> {
         key[1] = b'/';
         keys.push(key);
     }
+    keys
+}
+
+/// Gives the least of all lawful keys. The dash is the least byte that a key may have, and stands
+/// before the slash, so the slash comes as late as it can.
+pub fn least_key() -> Vec<u8> {
+    [&[b'-'; 254][..], b"/-"].concat()
+}
+
+/// Gives the greatest of all lawful keys. The tilde is the greatest byte that a key may have.
+pub fn greatest_key() -> Vec<u8> {
+    [&[b'~'; 254][..], b"/~"].concat()
+}
+
+/// Gives the greatest lawful key that is less than the key: one with a lesser last byte and tildes
+/// up to the greatest length. Where no byte is less than the last, it is the key without it; gives
+/// none where that would be unlawful.
+pub fn just_before(key: &[u8]) -> Option<Vec<u8>> {
+    let (last, start) = key.split_last()?;
+    let mut found = start.to_vec();
+    let lesser = PLAIN.iter().rev().find(|byte| *byte < last);
+    if let Some(byte) = lesser {
+        found.push(*byte);
+        found.resize(LONGEST_KEY, b'~');
+    }
+    Some(found).filter(|key| lawful(key))
+}
+
+/// Gives the least lawful key that is greater than the key: the key with one more byte. Gives none
+/// where the key has the greatest length.
+pub fn just_after(key: &[u8]) -> Option<Vec<u8>> {
+    Some([key, b"-"].concat()).filter(|key| lawful(key))
+}
+
+/// Gives the keys of the set, those just before and just after each, and the least and the greatest
+/// key of all, in key order.
+pub fn keys_and_neighbours(set: &Set) -> Vec<Vec<u8>> {
+    let mut keys = vec![least_key(), greatest_key()];
+    for key in set.keys() {
+        keys.push(key.clone());
+        keys.extend(just_before(key));
+        keys.extend(just_after(key));
+    }
+    keys.sort();
+    keys.dedup();
     keys
 }
 

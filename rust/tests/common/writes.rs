@@ -1,11 +1,11 @@
-//! The five writing calls as one type, and their comparison with the crate `independent`.
+//! The six writing calls as one type, and their comparison with the crate `independent`.
 //!
 //! A call that is done gives the value of its answer: the length of the table, and for difference
 //! 2^24 times the number of opened pages besides.
 
 use super::calls::{
     answer, mijdegen_difference, mijdegen_join, mijdegen_merge, mijdegen_put, mijdegen_remove,
-    shown, Surrounded,
+    mijdegen_run, shown, Surrounded,
 };
 use independent::{Set, LONGEST};
 use mijdegen::Refusal;
@@ -14,6 +14,7 @@ use std::fmt;
 /// A writing call with what it is handed besides the register held and the output.
 #[derive(Clone, PartialEq)]
 pub enum Call {
+    Run { first: Vec<u8>, last: Vec<u8> },
     Put { key: Vec<u8>, value: Vec<u8> },
     Join { key: Vec<u8>, value: Vec<u8> },
     Remove { key: Vec<u8> },
@@ -32,6 +33,13 @@ pub fn length_in(value: usize) -> usize {
 }
 
 impl Call {
+    pub fn run(first: &[u8], last: &[u8]) -> Call {
+        Call::Run {
+            first: first.to_vec(),
+            last: last.to_vec(),
+        }
+    }
+
     pub fn put(key: &[u8], value: &[u8]) -> Call {
         Call::Put {
             key: key.to_vec(),
@@ -65,6 +73,7 @@ impl Call {
     /// Calls the safe function.
     pub fn safe(&self, register: &[u8], out: &mut [u8]) -> Result<usize, u8> {
         let result = match self {
+            Call::Run { first, last } => mijdegen::run(register, first..=last, out),
             Call::Put { key, value } => mijdegen::put(register, key, value, out),
             Call::Join { key, value } => mijdegen::join(register, key, value, out),
             Call::Remove { key } => mijdegen::remove(register, key, out),
@@ -91,6 +100,16 @@ impl Call {
         // buffer of its own.
         let answer = unsafe {
             match &mut handed {
+                Call::Run { first, last } => mijdegen_run(
+                    reg,
+                    reg_len,
+                    lent(first),
+                    first.len(),
+                    lent(last),
+                    last.len(),
+                    out.start(),
+                    out_length,
+                ),
                 Call::Put { key, value } => mijdegen_put(
                     reg,
                     reg_len,
@@ -140,6 +159,7 @@ impl Call {
     /// Calls the function of the independent crate.
     pub fn independent(&self, register: &[u8], out: &mut [u8]) -> Result<usize, u8> {
         match self {
+            Call::Run { first, last } => independent::run(register, first, last, out),
             Call::Put { key, value } => independent::put(register, key, value, out),
             Call::Join { key, value } => independent::join(register, key, value, out),
             Call::Remove { key } => independent::remove(register, key, out),
@@ -150,10 +170,11 @@ impl Call {
     }
 
     /// Does to a plain set what the call does to its register, or gives the number that is due on
-    /// what the call is handed. Difference gives the records that the set lacks, which can be told
-    /// without any pages.
+    /// what the call is handed. Run gives the records between its keys. Difference gives the
+    /// records that the set lacks, which can be told without any pages.
     pub fn change(&self, set: Set) -> Result<Set, u8> {
         match self {
+            Call::Run { first, last } => independent::run_of(set, first, last),
             Call::Put { key, value } => independent::put_in(set, key, value),
             Call::Join { key, value } => independent::join_in(set, key, value),
             Call::Remove { key } => independent::remove_from(set, key),
@@ -178,6 +199,7 @@ impl fmt::Debug for Call {
             _ => shown(key),
         };
         match self {
+            Call::Run { first, last } => write!(formatter, "run {} {}", text(first), text(last)),
             Call::Put { key, value } => write!(formatter, "put {} {}", text(key), shown(value)),
             Call::Join { key, value } => write!(formatter, "join {} {}", text(key), shown(value)),
             Call::Remove { key } => write!(formatter, "remove {}", text(key)),
@@ -264,6 +286,7 @@ pub fn written(register: &[u8], call: &Call) -> Vec<u8> {
     let handed = match call {
         Call::Merge { second } | Call::Difference { second } => second.len(),
         Call::Put { key, .. } | Call::Join { key, .. } | Call::Remove { key } => key.len(),
+        Call::Run { .. } => 0,
     };
     for room in [2 * (register.len() + handed) + 1_000, LONGEST] {
         let mut out = vec![0xaa; room];

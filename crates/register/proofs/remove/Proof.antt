@@ -46,7 +46,7 @@ slice-aggregate-leave-out c = search needs
 leave-out-requires : tie.Need-leave-out-requires
 leave-out-requires c κs =
     let a = accepting _ _ _ (c .before .before .before .before .before .before .before .before .before .before .before .before .judge .ensures) (c .before .before .before .before .before .before .before .before .before .count .given .1) (λ i h. omega (arith, c .before .before .before .before .before .before .before .before .before .before .before .before .before .before .before .before .shared-slice-known .given i)) (c .before .before .before .before .before .before .before .before .before .before .before .before .judge .kept .1 .0) in
-    (position-within a _ _ (c .before .before .before .before .search .ensures) _ _ (c .before .before .position .given .1), a .fits)
+    (position-within a _ _ (c .before .before .before .before .search .ensures .0) _ _ (c .before .before .position .given .1), a .fits)
 
 slice-aggregate-write-table : tie.Need-slice-aggregate-write-table
 slice-aggregate-write-table c = search needs
@@ -54,12 +54,12 @@ slice-aggregate-write-table c = search needs
 sub-write-table : tie.Need-sub-write-table
 sub-write-table c =
     let a = accepting _ _ _ (c .before .before .before .before .before .before .before .before .before .before .before .before .before .before .before .judge .ensures) (c .before .before .before .before .before .before .before .before .before .before .before .before .count .given .1) (λ i h. omega (arith, c .before .before .before .before .before .before .before .before .before .before .before .before .before .before .before .before .before .before .before .shared-slice-known .given i)) (c .before .before .before .before .before .before .before .before .before .before .before .before .before .before .before .judge .kept .1 .0) in
-    omega (arith, position-within a _ _ (c .before .before .before .before .before .before .before .search .ensures) _ _ (c .before .before .before .before .before .position .given .1))
+    omega (arith, position-within a _ _ (c .before .before .before .before .before .before .before .search .ensures .0) _ _ (c .before .before .before .before .before .position .given .1))
 
 write-table-requires : tie.Need-write-table-requires
 write-table-requires c κs =
     let a = accepting _ _ _ (c .before .before .before .before .before .before .before .before .before .before .before .before .before .before .before .before .judge .ensures) (c .before .before .before .before .before .before .before .before .before .before .before .before .before .count .given .1) (λ i h. omega (arith, c .before .before .before .before .before .before .before .before .before .before .before .before .before .before .before .before .before .before .before .before .shared-slice-known .given i)) (c .before .before .before .before .before .before .before .before .before .before .before .before .before .before .before .before .judge .kept .1 .0) in
-    left-row a _ _ (c .before .before .before .before .before .before .before .before .search .ensures) _ _ (c .before .before .before .before .before .before .position .given .1) _ (c .before .before .before .leave-out .kept .0) (c .before .before .before .leave-out .ensures) .whole
+    left-row a _ _ (c .before .before .before .before .before .before .before .before .search .ensures .0) _ _ (c .before .before .before .before .before .before .position .given .1) _ (c .before .before .before .leave-out .kept .0) (c .before .before .before .leave-out .ensures) .whole
 
 enum-told : tie.Need-enum-told
 enum-told c = search needs
@@ -80,9 +80,9 @@ returns-2 : tie.Need-returns-2
 returns-2 c =
     let a = accepting _ _ _ (c .before .before .before .before .before .before .before .before .before .before .before .before .before .before .before .before .before .before .before .judge .ensures) (c .before .before .before .before .before .before .before .before .before .before .before .before .before .before .before .before .count .given .1) (λ i h. omega (arith, c .before .before .before .before .before .before .before .before .before .before .before .before .before .before .before .before .before .before .before .before .before .before .before .shared-slice-known .given i)) (c .before .before .before .before .before .before .before .before .before .before .before .before .before .before .before .before .before .before .before .judge .kept .1 .0) in
     let r = c .before .before .write-table in
-    let row = left-row a _ _ (c .before .before .before .before .before .before .before .before .before .before .before .search .ensures) _ _ (c .before .before .before .before .before .before .before .before .before .position .given .1) _ (c .before .before .before .before .before .before .leave-out .kept .0) (c .before .before .before .before .before .before .leave-out .ensures) in
+    let row = left-row a _ _ (c .before .before .before .before .before .before .before .before .before .before .before .search .ensures .0) _ _ (c .before .before .before .before .before .before .before .before .before .position .given .1) _ (c .before .before .before .before .before .before .leave-out .kept .0) (c .before .before .before .before .before .before .leave-out .ensures) in
     let says = row-written row _ _ _ (r .ensures .0) (r .ensures .1) in
-    says-same _ _ _ (remove-done a _ _ (c .before .before .before .before .before .before .before .before .before .before .before .search .ensures) _ _ (c .before .before .before .before .before .before .before .before .before .position .given .1) _ (c .before .before .before .before .before .before .leave-out .kept .0) (c .before .before .before .before .before .before .leave-out .ensures) _ (lawful-yes _ _ (c .before .before .before .before .before .before .before .before .before .before .before .before .before .before .is-lawful .ensures) (c .before .before .before .before .before .before .before .before .before .before .before .before .before .if1 .left))) (says .0) (says .1)
+    says-same _ _ _ (remove-done a _ _ (c .before .before .before .before .before .before .before .before .before .before .before .search .ensures .0) _ _ (c .before .before .before .before .before .before .before .before .before .position .given .1) _ (c .before .before .before .before .before .before .leave-out .kept .0) (c .before .before .before .before .before .before .leave-out .ensures) _ (lawful-yes _ _ (c .before .before .before .before .before .before .before .before .before .before .before .before .before .before .is-lawful .ensures) (c .before .before .before .before .before .before .before .before .before .before .before .before .before .if1 .left))) (says .0) (says .1)
 
 same-length-3 : tie.Need-same-length-3
 same-length-3 c = search needs
@@ -90,7 +90,7 @@ same-length-3 c = search needs
 returns-3 : tie.Need-returns-3
 returns-3 c =
     let a = accepting _ _ _ (c .before .before .before .before .before .before .before .before .before .before .before .before .before .before .judge .ensures) (c .before .before .before .before .before .before .before .before .before .before .before .count .given .1) (λ i h. omega (arith, c .before .before .before .before .before .before .before .before .before .before .before .before .before .before .before .before .before .before .shared-slice-known .given i)) (c .before .before .before .before .before .before .before .before .before .before .before .before .before .before .judge .kept .1 .0) in
-    refuses _ _ _ (absent-done a _ _ (c .before .before .before .before .before .before .search .ensures) _ (lawful-yes _ _ (c .before .before .before .before .before .before .before .before .before .is-lawful .ensures) (c .before .before .before .before .before .before .before .before .if1 .left)) (c .before .before .before .before .enum-told .given .1)) (c .before .before .refuse2 .ensures .0) (c .before .before .refuse2 .ensures .1)
+    refuses _ _ _ (absent-done a _ _ (c .before .before .before .before .before .before .search .ensures .0) _ (lawful-yes _ _ (c .before .before .before .before .before .before .before .before .before .is-lawful .ensures) (c .before .before .before .before .before .before .before .before .if1 .left)) _ (c .before .before .before .before .enum-told .given .1)) (c .before .before .refuse2 .ensures .0) (c .before .before .refuse2 .ensures .1)
 
 same-length-4 : tie.Need-same-length-4
 same-length-4 c = search needs

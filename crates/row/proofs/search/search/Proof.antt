@@ -41,7 +41,7 @@ fetch-from-requires : tie.Need-fetch-from-requires Inv-loop μ-loop
 fetch-from-requires c κs = search needs
 
 returns : tie.Need-returns Inv-loop μ-loop
-returns c = search (needs, search-over)
+returns c = (search (needs, search-over), search needs)
 
 array-share-prefix-buffer : tie.Need-array-share-prefix-buffer Inv-loop μ-loop
 array-share-prefix-buffer c = search needs
@@ -75,9 +75,10 @@ enum-told-2 c = search needs
 returns-2 : tie.Need-returns-2 Inv-loop μ-loop
 returns-2 c =
     let l = c .before .before .before .before .before .before .before .before .before .before .loop in
-    search-meets _ _ _ _ _ _ (l .inv .5) (l .inv .1) (l .inv .4) (l .inv .2)
+    let met = search-meets _ _ _ _ _ _ (l .inv .5) (l .inv .1) (l .inv .4) (l .inv .2)
     (c .before .before .before .before .before .before .before .before .before .loop-test .taken) _ _ _ (c .before .before .before .before .before .before .fetch-from .ensures)
-    (search needs) _ (c .before .before .compare .ensures) (search needs)
+    (search needs) _ (c .before .before .compare .ensures) (search needs) in
+    (met, search needs)
 
 enum-told-3 : tie.Need-enum-told-3 Inv-loop μ-loop
 enum-told-3 c = search needs
@@ -94,7 +95,7 @@ loop-again-2 c =
     (search needs, search needs, search needs, search needs, search needs, narrowed)
 
 returns-3 : tie.Need-returns-3 Inv-loop μ-loop
-returns-3 c = search (needs, search-ends)
+returns-3 c = (search (needs, search-ends), search needs)
 
 pub search-spec : {M : Type 1} → statement M
 search-spec =

@@ -1,0 +1,178 @@
+-- One record beside a key, and the records between two keys.
+use Prim.Native.Nat.{ℕ, _+_, _-_, _≤_, _<_}
+use mathlib.Core.Path.{_≡_, sym, ap, _∙_}
+use mathlib.Core.Bool.{Bool, true, false}
+use mathlib.Core.Option.{Option}
+use mathlib.Core.List.{List}
+use native.Mathlib.Omega.{arith}
+use lib.ListN.{length, take, drop, length-take, length-drop}
+use lib.Seq.{take-all, getD-take, getD-drop}
+use borrow.Author.Tests.{le-leb}
+use borrow.Table.Steps.{cases}
+use Rattle.answer.specs.declared.Refusal.{Refusal}
+use Rattle.answer.specs.declared.Refusal.the-variants.{UnlawfulKey, KeyAbsent, FirstAfterLast}
+use Rattle.key.specs.Key.{lawful, less, order}
+use Rattle.key.specs.declared.order.Order.{Order}
+use Rattle.key.specs.declared.order.Order.the-variants.{Less, Equal, Greater}
+use Rattle.key.proofs.Laws.{order-less, order-equal, order-greater, less-asymmetric, less-same}
+use Rattle.tree.specs.Record.{Record, records}
+use Rattle.tree.specs.Table.{SpeltTree}
+use Rattle.tree.specs.Judge.{due, most, refused, accepted, judge}
+use Rattle.index.specs.Walk.{AcceptedIndex}
+use Rattle.promises.specs.Map.{nth}
+use Rattle.promises.specs.Outcome.{unlisted, listRecord, listVerdict, listOutcome, stopped, sizes, settle}
+use Rattle.promises.specs.Range.{atOrAfter, lastBefore, recordsBetween, oneRecord, besideKey, atOrAfterOutcome, beforeOutcome, runTests, runVerdict, runOutcome}
+use Rattle.promises.proofs.MapLaws.{nth-there, nth-past}
+use Rattle.promises.proofs.RangeLaws.{between-few}
+use Rattle.row.specs.Row.{nothing, Row, recordsOf}
+use Rattle.row.specs.Search.{countBelow, countUpTo, CountSays}
+use Rattle.row.proofs.Counting.{nth-from, none-below, nth-below, counts-rise, between-slice}
+use Rattle.choice.specs.Choice.{RowOf}
+use Rattle.choice.proofs.Choosing.{records-slice, records-front}
+use Rattle.choice.proofs.Turns.{part-is}
+use Rattle.register.specs.Writing.{written}
+use Rattle.register.specs.Beside.{besideOutcome}
+use Rattle.register.proofs.Verdicts.{accepted-few}
+use Rattle.register.proofs.Calls.{Accepting, t, sorted, short, row-first, records-first}
+
+-- ---- beside a key
+module _ (b : Bool) (s k : List ℕ) (room : ℕ) where
+  pub beside-refused : {r : Refusal} → judge s ≡ refused r → besideOutcome b s k room ≡ unlisted r
+  unfolding besideOutcome atOrAfterOutcome beforeOutcome besideKey
+  beside-refused e = cases b (λ h. rw (h, e)) (λ h. rw (h, e))
+
+  pub beside-unlawful : (u : SpeltTree) → judge s ≡ accepted u → lawful k ≡ false → besideOutcome b s k room ≡ unlisted UnlawfulKey
+  unfolding besideOutcome atOrAfterOutcome beforeOutcome besideKey
+  beside-unlawful u e l = cases b (λ h. rw (h, e, l)) (λ h. rw (h, e, l))
+
+module _ {s index : List ℕ} {count : ℕ} (a : AcceptedIndex s index count) (k : List ℕ) (l : lawful k ≡ true) (room : ℕ) where
+  abbrev rs : List Record
+  rs = records (a .tree)
+
+  -- a record that is the n-th comes as list gives it
+  as-listed : (o : Option Record) (n : ℕ) → n < count → o ≡ nth n rs → oneRecord o room ≡ listOutcome s n room
+  unfolding oneRecord listOutcome listVerdict listRecord
+  as-listed o n h e = rw (e, a .judged, nth-there n rs nothing (omega (arith, a .size)))
+
+  module _ (n : ℕ) (says : CountSays (countBelow k) s index count n) (b : Bool) where
+    below : n ≡ countBelow k rs
+    unfolding CountSays
+    below = says (a .tree) (a .judged) (a .size) (a .indexed)
+
+    pub after-given : b ≡ true → n < count → listOutcome s n room ≡ besideOutcome b s k room
+    unfolding besideOutcome atOrAfterOutcome besideKey
+    after-given q h =
+        sym (rw (q, a .judged, l) (as-listed (atOrAfter k rs) n h (nth-from k rs ∙ ap (λ (i : ℕ). nth i rs) (sym below))))
+
+    pub after-none : b ≡ true → count ≤ n → besideOutcome b s k room ≡ unlisted KeyAbsent
+    unfolding besideOutcome atOrAfterOutcome besideKey oneRecord
+    after-none q h = rw (q, a .judged, l, nth-from k rs, ← below, nth-past n rs (omega (arith, a .size)))
+
+    pub before-none : b ≡ false → n ≡ 0 → besideOutcome b s k room ≡ unlisted KeyAbsent
+    unfolding besideOutcome beforeOutcome besideKey oneRecord
+    before-none q h = rw (q, a .judged, l, none-below k rs (sym below ∙ h))
+
+    pub before-given : b ≡ false → 0 < n → n ≤ count → listOutcome s (n - 1) room ≡ besideOutcome b s k room
+    unfolding besideOutcome beforeOutcome besideKey
+    before-given q h g =
+        sym (rw (q, a .judged, l) (as-listed (lastBefore k rs) (n - 1) (omega arith) (nth-below k rs (n - 1) (omega (arith, below)))))
+
+-- ---- between two keys
+module _ (s first last : List ℕ) (room : ℕ) where
+  pub run-refused : {r : Refusal} → judge s ≡ refused r → runOutcome s first last room ≡ stopped r
+  unfolding runOutcome runVerdict
+  run-refused e = rw e
+
+  module _ (u : SpeltTree) (e : judge s ≡ accepted u) where
+    pub run-first-unlawful : lawful first ≡ false → runOutcome s first last room ≡ stopped UnlawfulKey
+    unfolding runOutcome runVerdict runTests due settle
+    run-first-unlawful l = rw (e, l)
+
+    module _ (l : lawful first ≡ true) where
+      pub run-last-unlawful : lawful last ≡ false → runOutcome s first last room ≡ stopped UnlawfulKey
+      unfolding runOutcome runVerdict runTests due settle
+      run-last-unlawful g = rw (e, l, g)
+
+      module _ (g : lawful last ≡ true) where
+        pub run-crossed : less last first ≡ true → runOutcome s first last room ≡ stopped FirstAfterLast
+        unfolding runOutcome runVerdict runTests due settle
+        run-crossed h = rw (e, l, g, h)
+
+        -- 5 is not due, since the register's records are few
+        pub run-written : less last first ≡ false → length (records u) ≤ most
+            → written (recordsBetween first last (records u)) room ≡ runOutcome s first last room
+        unfolding runOutcome runVerdict runTests due settle written sizes
+        run-written h few =
+            let fits = le-leb (length (recordsBetween first last (records u))) most (omega (arith, between-few first last (records u))) in
+            rw (e, l, g, h, fits)
+
+-- the words of a part of the index stand for that part of the records
+module _ {s index : List ℕ} {count : ℕ} (a : Accepting s index count) (low high : ℕ) (rise : low ≤ high) (within : high ≤ count) where
+  abbrev part : List ℕ
+  part = take (high - low) (drop low index)
+
+  part-length : length part ≡ high - low
+  part-length = simp (length-take, length-drop) (omega (arith, a .fits))
+
+  part-row : Row s s part (high - low)
+  part-row =
+      let whole = row-first a s (short a) in
+      record {
+        few = omega (arith, whole .few);
+        room = omega (arith, part-length);
+        first = short a;
+        second = short a;
+        stands = λ i h. rw (getD-take (high - low) (drop low index) i 0 h, getD-drop) (whole .stands (low + i) (omega arith));
+      }
+
+  part-records : recordsOf s s part (high - low) ≡ take (high - low) (drop low (records (t a)))
+  unfolding recordsOf
+  part-records =
+      rw (take-all (high - low) part (omega (arith, part-length)), part-is high low index)
+      (records-slice s s index high low
+      ∙ ap (drop low) (records-front s s index count high within ∙ ap (take high) (records-first a s))
+      ∙ sym (part-is high low (records (t a))))
+
+-- with the ends that the two keys have
+module _ {s index : List ℕ} {count : ℕ} (a : Accepting s index count) (first last : List ℕ) (low high : ℕ)
+    (from : CountSays (countBelow first) s index count low) (to : CountSays (countUpTo last) s index count high)
+    (h : less last first ≡ false) (within : high ≤ count) where
+  starts : low ≡ countBelow first (records (t a))
+  unfolding CountSays
+  starts = from (t a) (a .given .judged) (a .given .size) (a .given .indexed)
+
+  ends : high ≡ countUpTo last (records (t a))
+  unfolding CountSays
+  ends = to (t a) (a .given .judged) (a .given .size) (a .given .indexed)
+
+  pub run-rises : low ≤ high
+  run-rises = omega (arith, starts, ends, counts-rise first last h (records (t a)))
+
+  pub run-row : RowOf s s (take (high - low) (drop low index)) (high - low) (recordsBetween first last (records (t a)))
+  run-row = record {
+    whole = part-row a low high run-rises within;
+    records = part-records a low high run-rises within ∙ rw (starts, ends) (sym (between-slice first last (records (t a)) (sorted a)));
+  }
+
+module _ {s index : List ℕ} {count : ℕ} (a : Accepting s index count) (first last : List ℕ) (room : ℕ) where
+  pub run-done : lawful first ≡ true → lawful last ≡ true → less last first ≡ false
+      → written (recordsBetween first last (records (t a))) room ≡ runOutcome s first last room
+  run-done l g h =
+      run-written s first last room (t a) (a .given .judged) l g h (omega (arith, a .given .size, accepted-few (a .bytes) (a .given)))
+
+-- ---- whether a key is less than another
+pub less-no : {x : Bool} (b : Bool) → b ≡ x → b ≡ false → x ≡ false
+less-no b e h = sym e ∙ h
+
+pub less-yes : {x : Bool} (b : Bool) → b ≡ x → b ≡ true → x ≡ true
+less-yes b e h = sym e ∙ h
+
+module _ (a b : List ℕ) (o : Order) (e : o ≡ order a b) where
+  pub order-is-less : o ≡ Less → true ≡ less a b
+  order-is-less h = sym (order-less a b (sym e ∙ h))
+
+  pub order-is-not-less : o ≡ Equal → false ≡ less a b
+  order-is-not-less h = sym (less-same a b (order-equal a b (sym e ∙ h)))
+
+  pub order-is-greater : o ≡ Greater → false ≡ less a b
+  order-is-greater h = sym (less-asymmetric b a (order-greater a b (sym e ∙ h)))
