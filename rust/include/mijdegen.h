@@ -9,6 +9,11 @@
  * pointer and a length too, or a pointer to 32 bytes. Where a length is 0, the pointer is neither
  * read nor written. An output must share no byte with an input or with another output.
  *
+ * The key rule: a key has 3 to 256 bytes, with just one slash and at least one byte on each side of
+ * it. The other bytes are ASCII letters, digits, '.', '-', '_', ':' and '~'. The part after the
+ * slash, the name, is neither "." nor "..": "a/." and "a/.." break the rule, "a/..." and "./a" keep
+ * it.
+ *
  * Each call that takes a register judges it whole: its time grows with the register's length, and
  * a call for each of n records judges n times. A call uses up to 512 KiB of stack and no other
  * memory. Threads may call at the same time.

@@ -3,6 +3,27 @@
 //! Each function takes byte slices and gives its result, or a [`Refusal`] that says why the
 //! library gives none. The crate allocates nothing and needs no standard library.
 //!
+//! # Keys
+//!
+//! The key rule: a key has 3 to 256 bytes, with just one slash and at least one byte on each side
+//! of it. The other bytes are ASCII letters, digits, `.`, `-`, `_`, `:` and `~`. The part after the
+//! slash, the name, is neither `.` nor `..`. What breaks the rule, as an argument or in a register,
+//! is refused with [`Refusal::UnlawfulKey`]:
+//!
+//! ```
+//! use mijdegen::{lookup, Refusal};
+//!
+//! let empty = b"\xa2\x61e\x80\x61l\xf6";
+//! for key in ["a/.", "a/..", "a/", "a/b/c"] {
+//!     assert_eq!(lookup(empty, key.as_bytes()), Err(Refusal::UnlawfulKey));
+//! }
+//! for key in ["a/...", "./a", "a/.b", "a/b"] {
+//!     assert_eq!(lookup(empty, key.as_bytes()), Err(Refusal::KeyAbsent));
+//! }
+//! ```
+//!
+//! Keys are ordered byte by byte; a key stands before every longer key that begins with it.
+//!
 //! # Costs
 //!
 //! Each call that takes a register judges it whole, so its time grows with the register's length:

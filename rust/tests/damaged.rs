@@ -652,9 +652,9 @@ fn unlawful_keys() {
             cases += 1;
         }
     }
-    // 24 keys, and 256 bytes at 2 places.
-    assert_eq!(accepted, 2 * 67);
-    assert_eq!(cases, 24 + 256 * 2);
+    // 256 bytes at 2 places; a dot alone is a collection and no name.
+    assert_eq!(accepted, 2 * 67 - 1);
+    assert_eq!(cases, short_unlawful_keys().len() + 256 * 2);
 }
 
 /// Keys that do not rise, within a page and from one page to another.

@@ -12,10 +12,19 @@ const PROMISES: &str = "docs/PROMISES.md";
 const DOCUMENTS: [&str; 3] = ["README.md", "docs/DECISIONS.md", PROMISES];
 
 /// The code spans that name nothing in the repository. Each must be in use.
-const LITERALS: [&str; 8] = [
+const LITERALS: [&str; 16] = [
     // Keys of records in examples.
     "a/b1",
     "a/b2",
+    "a/.",
+    "a/..",
+    "a/...",
+    "./a",
+    "../a",
+    // The two names that no key has, and the bytes beside letters and digits.
+    ".",
+    "..",
+    ".-_:~",
     // The folders of a crate, in sentences about all crates.
     "src/",
     "specs/",

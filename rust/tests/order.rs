@@ -64,6 +64,7 @@ fn at_or_after_and_before() {
                 (other, None),
                 (beside_none, Some(12)),
                 (b"ab", Some(7)),
+                (b"a/..", Some(7)),
                 (b"", Some(7)),
             ] {
                 for (out_length, no_room) in [(4, None), (9, None), (3, Some(13)), (0, Some(13))] {
@@ -83,7 +84,7 @@ fn at_or_after_and_before() {
             }
         }
     }
-    assert_eq!(cases, (10 + 2) * 2 * 5 * 4);
+    assert_eq!(cases, (10 + 2) * 2 * 6 * 4);
 }
 
 /// Register, first key, last key, their order, output: all combinations of faults. No run has more
@@ -97,6 +98,7 @@ fn run() {
         (b"a/b0", None),
         (b"a/c", None),
         (b"ab", Some(7)),
+        (b"a/.", Some(7)),
         (b"", Some(7)),
     ];
     let last_keys = [
@@ -104,6 +106,7 @@ fn run() {
         (b"a/b2", None),
         (b"b", Some(7)),
         (b"/", Some(7)),
+        (b"a/..", Some(7)),
         (b"", Some(7)),
     ];
     let (mut cases, mut counts) = (0, [0; 15]);
@@ -122,10 +125,10 @@ fn run() {
             }
         }
     }
-    assert_eq!(cases, (10 + 2) * 5 * 5 * 3);
-    // Each of 1 to 10 is due on one of the registers, and 7 on 19 pairs of keys as well.
-    assert!((1..=10).all(|number| counts[number] >= 5 * 5 * 3));
-    assert_eq!(counts[7], 5 * 5 * 3 + 2 * 19 * 3);
+    assert_eq!(cases, (10 + 2) * 6 * 6 * 3);
+    // Each of 1 to 10 is due on one of the registers, and 7 on 30 pairs of keys as well.
+    assert!((1..=10).all(|number| counts[number] >= 6 * 6 * 3));
+    assert_eq!(counts[7], 6 * 6 * 3 + 2 * 30 * 3);
     assert_eq!(counts[14], 2 * 2 * 3);
     assert_eq!((counts[0], counts[13]), (2 * 4, 2 * 4 * 2));
 }
@@ -138,7 +141,12 @@ fn put_and_join() {
     for (register, number) in registers(&[EMPTY.to_vec(), full.clone()]) {
         // A new key is one too many where there are 4,096 records.
         let count = (register == full).then_some(5);
-        for (key, unlawful) in [(&b"a/b1"[..], None), (b"ab", Some(7)), (b"", Some(7))] {
+        for (key, unlawful) in [
+            (&b"a/b1"[..], None),
+            (b"ab", Some(7)),
+            (b"a/.", Some(7)),
+            (b"", Some(7)),
+        ] {
             for (value, other_length) in [
                 (&VALUE[..], None),
                 (&VALUE[..31], Some(11)),
@@ -154,7 +162,7 @@ fn put_and_join() {
             }
         }
     }
-    assert_eq!(cases, (10 + 2) * 3 * 3 * 3 * 2);
+    assert_eq!(cases, (10 + 2) * 4 * 3 * 3 * 2);
 }
 
 /// Register, key, absence, output: all combinations of faults. A register of 4,096 records has
@@ -177,6 +185,7 @@ fn remove() {
             (&b"a/b1"[..], None),
             (b"a/b3", Some(12)),
             (b"ab", Some(7)),
+            (b"a/..", Some(7)),
             (b"", Some(7)),
         ] {
             for (out_length, no_room) in [(length, None), (length - 1, Some(13)), (0, Some(13))] {
@@ -186,7 +195,7 @@ fn remove() {
             }
         }
     }
-    assert_eq!(cases, (10 + 2) * 4 * 3);
+    assert_eq!(cases, (10 + 2) * 5 * 3);
 }
 
 /// First register, second register, count, output: all combinations of faults.

@@ -203,7 +203,7 @@ fn unlawful_keys_are_refused() {
             }
         }
     }
-    assert_eq!(cases, KINDS.len() * 4 * 30 * 2);
+    assert_eq!(cases, KINDS.len() * 4 * unlawful_keys().len() * 2);
 }
 
 /// Each byte beside the slash: the record is put where it is lawful, else 7.

@@ -767,7 +767,7 @@ fn unlawful_keys_are_refused() {
             cases += 1;
         }
     }
-    assert_eq!(cases, 3 * 30);
+    assert_eq!(cases, 3 * unlawful_keys().len());
 }
 
 /// The register is judged before the keys and the output: the scope's example of each number.

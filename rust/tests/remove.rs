@@ -147,7 +147,7 @@ fn unlawful_keys_are_refused() {
             cases += 1;
         }
     }
-    assert_eq!(cases, KINDS.len() * 4 * 30);
+    assert_eq!(cases, KINDS.len() * 4 * unlawful_keys().len());
 }
 
 /// What was put is removed again, and the register is the one before, byte for byte.

@@ -17,10 +17,9 @@ layers-published : map layerOf
 unfolding K pad schedule W round rounds plus compress run hash sha256 bits bitsOf leadingZeroBits layerOfDigest layerOf
 layers-published = refl
 
--- a/b, a/..., A.9-_:~/z; then no bytes, ab, a/, /a, abc, ab/, /ab, a/b/c, a b/c, and a/ with the byte 80
+-- a/b, A.9-_:~/z; then no bytes, ab, a/, /a, abc, ab/, /ab, a/b/c, a b/c, and a/ with the byte 80
 keys-judged : map lawful
     ((0x61 ∷ 0x2F ∷ 0x62 ∷ [])
-    ∷ (0x61 ∷ 0x2F ∷ 0x2E ∷ 0x2E ∷ 0x2E ∷ [])
     ∷ (0x41 ∷ 0x2E ∷ 0x39 ∷ 0x2D ∷ 0x5F ∷ 0x3A ∷ 0x7E ∷ 0x2F ∷ 0x7A ∷ [])
     ∷ ([])
     ∷ (0x61 ∷ 0x62 ∷ [])
@@ -33,9 +32,23 @@ keys-judged : map lawful
     ∷ (0x61 ∷ 0x20 ∷ 0x62 ∷ 0x2F ∷ 0x63 ∷ [])
     ∷ (0x61 ∷ 0x2F ∷ 0x80 ∷ [])
     ∷ [])
-    ≡ true ∷ true ∷ true ∷ false ∷ false ∷ false ∷ false ∷ false ∷ false ∷ false ∷ false ∷ false ∷ false ∷ []
+    ≡ true ∷ true ∷ false ∷ false ∷ false ∷ false ∷ false ∷ false ∷ false ∷ false ∷ false ∷ false ∷ []
 unfolding ordinary collection name allOrdinary lawful
 keys-judged = refl
+
+-- a/. and a/.. ; then a/..., ./a, ../a, a/.b and a/..b
+dot-names-judged : map lawful
+    ((0x61 ∷ 0x2F ∷ 0x2E ∷ [])
+    ∷ (0x61 ∷ 0x2F ∷ 0x2E ∷ 0x2E ∷ [])
+    ∷ (0x61 ∷ 0x2F ∷ 0x2E ∷ 0x2E ∷ 0x2E ∷ [])
+    ∷ (0x2E ∷ 0x2F ∷ 0x61 ∷ [])
+    ∷ (0x2E ∷ 0x2E ∷ 0x2F ∷ 0x61 ∷ [])
+    ∷ (0x61 ∷ 0x2F ∷ 0x2E ∷ 0x62 ∷ [])
+    ∷ (0x61 ∷ 0x2F ∷ 0x2E ∷ 0x2E ∷ 0x62 ∷ [])
+    ∷ [])
+    ≡ false ∷ false ∷ true ∷ true ∷ true ∷ true ∷ true ∷ []
+unfolding ordinary collection name allOrdinary lawful
+dot-names-judged = refl
 
 -- a/b1 before a/b2; a/b10 before a/b2, though it is longer; a/b before a/b1; a/b1 not before a/b, nor before itself; B/z before a/a
 keys-ordered :

@@ -1,17 +1,18 @@
--- The key rule as the code tries it: the ranges of ordinary bytes, the run of ordinary bytes, and what the run tells of a key.
-use Prim.Native.Nat.{ℕ, zero, suc, _+_, _≤_, _<_}
+-- The key rule as the code tries it: the ranges of ordinary bytes, the run of ordinary bytes, the names . and .., and what these tell of a
+-- key.
+use Prim.Native.Nat.{ℕ, zero, suc, _+_, _-_, _≤_, _<_}
 use mathlib.Core.Path.{_≡_, refl, sym, ap, _∙_}
-use mathlib.Core.Bool.{Bool, true, false, _&&_, Bool·beq, and-false, false≢true}
+use mathlib.Core.Bool.{Bool, true, false, _&&_, Bool·beq, and-true, and-false, false≢true}
 use mathlib.Core.List.{List, [], _∷_, _++_, append-nil}
 use native.Mathlib.Omega.{arith}
 use native.Mathlib.Nat.{not-suc-le-zero, zero-add, suc-add}
 use native.Mathlib.Numerals.{add-one}
 use lib.Dec.{eqb, eqb·suc-suc, eqb·zero-suc}
 use lib.ListN.{length, take, drop, getD, drop-of-length-le, length-drop}
-use lib.Seq.{drop-cons, length-take-le}
+use lib.Seq.{drop-cons, take-all, length-take-le}
 use borrow.Author.Tests.{eqb-true, eqb-false, eq-eqb, ne-eqb, le-leb, lt-leb}
 use borrow.Table.Steps.{cases}
-use Rattle.key.specs.Key.{slash, ordinary, collection, name, allOrdinary, lawful}
+use Rattle.key.specs.Key.{slash, dot, ordinary, collection, name, allOrdinary, isDotName, lawful}
 use Rattle.key.specs.Inner.{run}
 
 -- ---- ranges of bytes
@@ -95,6 +96,24 @@ eqb-add : (n a b : ℕ) → eqb (n + a) (n + b) ≡ eqb a b
 eqb-add zero a b = simp zero-add
 eqb-add (suc n) a b = simp suc-add (eqb·suc-suc (n + a) (n + b) ∙ eqb-add n a b)
 
+-- ---- the names . and .. by their length
+pub dots-one : (s : List ℕ) → length s ≡ 1 → eqb (getD s 0 0) dot ≡ isDotName s
+dots-one [] h = absurd (omega arith)
+dots-one (a ∷ []) h = refl
+dots-one (a ∷ b ∷ s) h = absurd (omega arith)
+
+pub dots-two : (s : List ℕ) → length s ≡ 2 → (eqb (getD s 0 0) dot && eqb (getD s 1 0) dot) ≡ isDotName s
+dots-two [] h = absurd (omega arith)
+dots-two (a ∷ []) h = absurd (omega arith)
+dots-two (a ∷ b ∷ []) h = refl
+dots-two (a ∷ b ∷ c ∷ s) h = absurd (omega arith)
+
+pub dots-other : (s : List ℕ) → (length s ≡ 1 → ⊥) → (length s ≡ 2 → ⊥) → false ≡ isDotName s
+dots-other [] f g = refl
+dots-other (a ∷ []) f g = absurd (f refl)
+dots-other (a ∷ b ∷ []) f g = absurd (g refl)
+dots-other (a ∷ b ∷ c ∷ s) f g = refl
+
 -- ---- the ways that the code answers
 module _ (k : List ℕ) where
   pub too-short : length k < 3 → false ≡ lawful k
@@ -155,20 +174,31 @@ module _ (k : List ℕ) (at : ℕ) (a : at ≡ run k) where
       pub nothing-after : at + 1 ≡ length k → false ≡ lawful k
       nothing-after z = no-name k (omega (arith, name-length))
 
-      -- r is where the run behind the slash ends
-      pub two-parts : 3 ≤ length k → length k ≤ 256 → (at ≡ 0 → ⊥) → (at + 1 ≡ length k → ⊥)
-          → (r : ℕ) → r ≡ at + 1 + run (drop (at + 1) k) → eqb r (length k) ≡ lawful k
-      unfolding lawful
-      two-parts low high f g r q =
-          let p : eqb r (length k) ≡ allOrdinary (name k) =
-          rw (q, add-one, ← name-is, all-run (name k), ← name-length) (eqb-add (suc at) (run (name k)) (length (name k))) in
-          let n : 1 ≤ length (name k) = omega (arith, name-length) in
-          rw (
-            p,
-            le-leb 3 (length k) low,
-            le-leb (length k) 256 high,
-            collection-length,
-            le-leb 1 at (omega arith),
-            collection-ordinary,
-            le-leb 1 (length (name k)) n,
-          )
+      -- d says whether the part after the slash is . or ..
+      module _ (d : Bool) (l : d ≡ isDotName (take (length k - (at + 1)) (drop (at + 1) k))) where
+        dots-told : isDotName (name k) ≡ d
+        dots-told = rw (l, name-is, add-one, take-all (length k - suc at) (drop (suc at) k) (simp length-drop (omega arith)))
+
+        pub dots-after : d ≡ true → false ≡ lawful k
+        unfolding lawful
+        dots-after y = simp (dots-told, y, and-false)
+
+        -- r is where the run behind the slash ends
+        pub two-parts : 3 ≤ length k → length k ≤ 256 → (at ≡ 0 → ⊥) → (at + 1 ≡ length k → ⊥) → d ≡ false
+            → (r : ℕ) → r ≡ at + 1 + run (drop (at + 1) k) → eqb r (length k) ≡ lawful k
+        unfolding lawful
+        two-parts low high f g n r q =
+            let p : eqb r (length k) ≡ allOrdinary (name k) =
+            rw (q, add-one, ← name-is, all-run (name k), ← name-length) (eqb-add (suc at) (run (name k)) (length (name k))) in
+            rw (
+              p,
+              le-leb 3 (length k) low,
+              le-leb (length k) 256 high,
+              collection-length,
+              le-leb 1 at (omega arith),
+              collection-ordinary,
+              le-leb 1 (length (name k)) (omega (arith, name-length)),
+              dots-told,
+              n,
+              and-true,
+            )

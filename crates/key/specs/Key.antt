@@ -1,6 +1,6 @@
 -- Keys: the key rule, their order, and the leading bytes that two keys share.
 use Prim.Native.Nat.{ℕ, suc}
-use mathlib.Core.Bool.{Bool, true, false, cond, _&&_, _||_}
+use mathlib.Core.Bool.{Bool, true, false, cond, not, _&&_, _||_}
 use mathlib.Core.List.{List, [], _∷_}
 use lib.ListN.{length}
 use lib.Dec.{eqb, ltb, leb}
@@ -10,6 +10,10 @@ use Rattle.key.specs.declared.order.Order.the-variants.{Less, Equal, Gre
 -- The slash between the two parts of a key.
 abbrev pub slash : ℕ
 slash = 0x2F
+
+-- The byte of the names . and ..
+abbrev pub dot : ℕ
+dot = 0x2E
 
 abbrev pub between : ℕ → ℕ → ℕ → Bool
 between low high b = leb low b && leb b high
@@ -39,12 +43,21 @@ unfoldable pub allOrdinary : List ℕ → Bool
 allOrdinary [] = true
 allOrdinary (b ∷ s) = ordinary b && allOrdinary s
 
--- The key rule: 3 to 256 bytes, with just one slash and at least one byte on each side of it. The other bytes are ordinary.
+-- The names . and .. and no others.
+abbrev pub isDotName : List ℕ → Bool
+isDotName [] = false
+isDotName (a ∷ []) = eqb a dot
+isDotName (a ∷ b ∷ []) = eqb a dot && eqb b dot
+isDotName (a ∷ b ∷ c ∷ s) = false
+
+-- The key rule: 3 to 256 bytes, with just one slash and at least one byte on each side of it. The other bytes are ordinary. The name is
+-- neither . nor ..
 unfoldable pub lawful : List ℕ → Bool
 lawful k =
     leb 3 (length k) && leb (length k) 256
     && leb 1 (length (collection k)) && allOrdinary (collection k)
     && leb 1 (length (name k)) && allOrdinary (name k)
+    && not (isDotName (name k))
 
 -- Keys are ordered byte by byte; a key stands before every longer key that begins with it.
 unfoldable pub less : List ℕ → List ℕ → Bool

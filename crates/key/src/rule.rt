@@ -2,7 +2,7 @@
 ghost use mathlib.Core.Path.{_≡_};
 ghost use Prim.Native.Nat.{_+_, _≤_};
 ghost use lib.ListN.{length, drop};
-ghost use Rattle.key.specs.Key.{ordinary, lawful};
+ghost use Rattle.key.specs.Key.{ordinary, isDotName, lawful};
 ghost use Rattle.key.specs.Inner.{run};
 
 // Whether a byte may stand beside the slash. The ranges are tried from the lowest byte up.
@@ -54,6 +54,18 @@ fn run_end(key: &[u8], from: usize) -> usize
     i
 }
 
+// Whether a name is . or .., which no key may have.
+fn is_dot_name(name: &[u8]) -> bool
+    ensures { λ r. ⌜ r ≡ isDotName (now (name .entry)) ⌝ }
+{
+    let n = name.len();
+    match n {
+        1 => name[0] == b'.',
+        2 => name[0] == b'.' && name[1] == b'.',
+        _ => false,
+    }
+}
+
 // Whether a string of bytes is a lawful key.
 pub fn is_lawful(key: &[u8]) -> bool
     ensures { λ r. ⌜ r ≡ lawful (now (key .entry)) ⌝ }
@@ -77,6 +89,9 @@ pub fn is_lawful(key: &[u8]) -> bool
     }
     let from = at + 1;
     if from == n {
+        return false;
+    }
+    if is_dot_name(&key[from..]) {
         return false;
     }
     run_end(key, from) == n

@@ -6,7 +6,8 @@ use crate::sha256;
 pub const LONGEST_KEY: usize = 256;
 
 /// Says whether the key keeps the key rule: 3 to 256 bytes, with just one slash and at least one
-/// byte on each side of it; the other bytes are letters, digits, `.`, `-`, `_`, `:` and `~`.
+/// byte on each side of it; the other bytes are letters, digits, `.`, `-`, `_`, `:` and `~`. The
+/// part after the slash is neither `.` nor `..`.
 pub fn lawful(key: &[u8]) -> bool {
     if key.len() < 3 || key.len() > LONGEST_KEY {
         return false;
@@ -15,9 +16,10 @@ pub fn lawful(key: &[u8]) -> bool {
     let (Some(before), Some(after), None) = (sides.next(), sides.next(), sides.next()) else {
         return false;
     };
-    [before, after]
+    let sides_hold = [before, after]
         .iter()
-        .all(|side| !side.is_empty() && side.iter().all(|byte| is_plain(*byte)))
+        .all(|side| !side.is_empty() && side.iter().all(|byte| is_plain(*byte)));
+    sides_hold && after != b"." && after != b".."
 }
 
 /// Says whether the byte may stand beside the slash in a key.
@@ -51,10 +53,15 @@ mod tests {
 
     #[test]
     fn lawful_keys() {
-        let keys: [&[u8]; 8] = [
+        let keys: [&[u8]; 13] = [
             b"a/b",
             b"a/b1",
-            b"./.",
+            b"a/...",
+            b"./a",
+            b"../a",
+            b"a/.b",
+            b"a/..b",
+            b"a/b.",
             b"-/_",
             b":/~",
             b"com.example.record/3jqfcqzm3fo2j",
@@ -68,7 +75,7 @@ mod tests {
 
     #[test]
     fn unlawful_keys() {
-        let keys: [&[u8]; 15] = [
+        let keys: [&[u8]; 19] = [
             b"",
             b"/",
             b"a",
@@ -83,6 +90,10 @@ mod tests {
             b"a/b/c",
             b"/a/",
             b"a/b c",
+            b"a/.",
+            b"a/..",
+            b"./.",
+            b"../..",
             &[&[b'a'; 200][..], b"/", &[b'b'; 56]].concat(),
         ];
         for key in keys {
@@ -99,7 +110,8 @@ mod tests {
         for byte in 0..=255 {
             let expected = plain.contains(&byte);
             assert_eq!(lawful(&[byte, b'/', b'b']), expected, "{byte}");
-            assert_eq!(lawful(&[b'a', b'/', byte]), expected, "{byte}");
+            let name_alone = expected && byte != b'.';
+            assert_eq!(lawful(&[b'a', b'/', byte]), name_alone, "{byte}");
             assert_eq!(lawful(&[b'a', byte, b'/', b'b']), expected, "{byte}");
             assert_eq!(lawful(&[b'a', b'/', byte, b'b']), expected, "{byte}");
         }

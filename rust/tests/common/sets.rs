@@ -166,6 +166,40 @@ pub fn published_trees() -> [(Set, &'static str); 3] {
     ]
 }
 
+/// Gives keys whose name, the part after the slash, is `.` or `..`. They keep the key rule in all
+/// else.
+pub fn dot_name_keys() -> Vec<Vec<u8>> {
+    let collections: [&[u8]; 5] = [b"a", b".", b"..", b"app.bsky.feed.post", &[b'a'; 253]];
+    let keys = collections
+        .iter()
+        .flat_map(|collection| [&b"/."[..], b"/.."].map(|name| [*collection, name].concat()));
+    keys.collect()
+}
+
+/// Gives lawful keys with dots at the edges of both parts, in key order. Each of these parts is a
+/// collection, and each but `.` and `..` a name.
+pub fn dotted_keys() -> Vec<Vec<u8>> {
+    let parts: [&[u8]; 9] = [
+        b".",
+        b"..",
+        b"...",
+        b".a",
+        b"..a",
+        b"a",
+        b"a.",
+        b"a..",
+        &[b'.'; 127],
+    ];
+    let mut keys = Vec::new();
+    for collection in parts {
+        for name in &parts[2..] {
+            keys.push([collection, b"/", name].concat());
+        }
+    }
+    keys.sort();
+    keys
+}
+
 /// Gives keys that break the rule and are short enough for an entry of a page.
 pub fn short_unlawful_keys() -> Vec<Vec<u8>> {
     let keys: [&[u8]; 24] = [
@@ -194,7 +228,8 @@ pub fn short_unlawful_keys() -> Vec<Vec<u8>> {
         b"a/\xc3\xa9",
         b"a/b\xc3\xa9",
     ];
-    keys.iter().map(|key| key.to_vec()).collect()
+    let keys = keys.iter().map(|key| key.to_vec());
+    keys.chain(dot_name_keys()).collect()
 }
 
 /// Gives keys that break the rule, those among them that are too long.
@@ -391,9 +426,14 @@ fn shared_prefix(random: &mut Random) -> Vec<u8> {
 
 /// A key of this length with any lawful bytes.
 fn mixed(random: &mut Random, length: usize) -> Vec<u8> {
-    let mut key: Vec<u8> = (0..length).map(|_| *random.one_of(PLAIN)).collect();
-    key[1 + random.below(length - 2)] = b'/';
-    key
+    loop {
+        let mut key: Vec<u8> = (0..length).map(|_| *random.one_of(PLAIN)).collect();
+        key[1 + random.below(length - 2)] = b'/';
+        // Its name may be one dot or two.
+        if lawful(&key) {
+            return key;
+        }
+    }
 }
 
 /// A key among those of high layers.
