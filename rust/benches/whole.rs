@@ -1,4 +1,4 @@
-//! The times of all thirteen calls on ordinary records, beside the independent crate and beside
+//! The times of all fourteen calls on ordinary records, beside the independent crate and beside
 //! what the calls cannot do without: hashing each page and each key of the lent registers once.
 //! Also the difference of two full registers that are nearly the same, and of two with nothing in
 //! common, beside their targets.
@@ -114,9 +114,10 @@ impl Lent {
     }
 }
 
-/// All thirteen calls. Put is lent the register without the middle record, merge two of half as
+/// All fourteen calls. Put is lent the register without the middle record, merge two of half as
 /// many records, difference the one without the middle record and the whole one, the others the
-/// whole. A run is of all records, and of 8 around the middle one.
+/// whole. A run is of all records, and of 8 around the middle one. Slash is asked of each key; it
+/// hashes nothing, and the digest of each key stands beside it.
 fn all_calls<'a>(whole: &'a Subject, lent: &'a [[&'a Subject; 2]; 4]) -> Vec<Case<'a>> {
     let register = &whole.register[..];
     let key = whole.middle_key();
@@ -143,6 +144,12 @@ fn all_calls<'a>(whole: &'a Subject, lent: &'a [[&'a Subject; 2]; 4]) -> Vec<Cas
             || mijdegen::layer(black_box(register)),
             || independent::layer(black_box(register)),
             hash_input,
+        ),
+        Case::new(
+            "slash of each key",
+            || whole.for_each_key(mijdegen::slash),
+            || whole.for_each_key(independent::slash),
+            || whole.hash_keys(),
         ),
         Case::new(
             "check",
@@ -226,7 +233,8 @@ fn main() {
     );
     println!("so many records and merge joins two halves of them. Difference is of the register");
     println!("without one record and the whole one. At_or_after and before are of the middle key.");
-    println!("Outputs are just long enough.\n");
+    println!("Slash is one call for each key, beside the digest of each key. Outputs are just");
+    println!("long enough.\n");
     println!(
         "{:>7}  {:<24} {:>9} {:>9} {:>12} {:>10} {:>12}",
         "records", "call", "library", "hash-once", "independent", "/hash-once", "/independent"

@@ -10,9 +10,9 @@
  * read nor written. An output must share no byte with an input or with another output.
  *
  * The key rule: a key has 3 to 256 bytes, with just one slash and at least one byte on each side of
- * it. The other bytes are ASCII letters, digits, '.', '-', '_', ':' and '~'. The part after the
- * slash, the name, is neither "." nor "..": "a/." and "a/.." break the rule, "a/..." and "./a" keep
- * it.
+ * it. The other bytes are ASCII letters, digits, '.', '-', '_', ':' and '~'. The part before the
+ * slash is the collection, the part after it the name. The name is neither "." nor "..": "a/." and
+ * "a/.." break the rule, "a/..." and "./a" keep it.
  *
  * Each call that takes a register judges it whole: its time grows with the register's length, and
  * a call for each of n records judges n times. A call uses up to 512 KiB of stack and no other
@@ -101,6 +101,18 @@ uint64_t mijdegen_digest(const uint8_t *input, size_t input_len,
  * MIJDEGEN_TOO_LONG where the input is longer than MIJDEGEN_LONGEST bytes.
  */
 uint64_t mijdegen_layer(const uint8_t *input, size_t input_len);
+
+/*
+ * Judges the key by the key rule, without a register, and says where its slash stands. Any bytes
+ * are taken, also none.
+ *
+ * The number of the answer is 0 and its value is the number of bytes before the slash, from 1 to
+ * 254. These bytes are the collection; the name is the bytes from value + 1 on. The answer is
+ * MIJDEGEN_UNLAWFUL_KEY where the key breaks the key rule, however long it is.
+ *
+ * Its time is in proportion to the key, of which at most MIJDEGEN_LONGEST_KEY bytes are read.
+ */
+uint64_t mijdegen_slash(const uint8_t *key, size_t key_len);
 
 /*
  * Checks the register.

@@ -6,20 +6,30 @@
 //! # Keys
 //!
 //! The key rule: a key has 3 to 256 bytes, with just one slash and at least one byte on each side
-//! of it. The other bytes are ASCII letters, digits, `.`, `-`, `_`, `:` and `~`. The part after the
-//! slash, the name, is neither `.` nor `..`. What breaks the rule, as an argument or in a register,
-//! is refused with [`Refusal::UnlawfulKey`]:
+//! of it. The other bytes are ASCII letters, digits, `.`, `-`, `_`, `:` and `~`. The part before the
+//! slash is the collection, the part after it the name. The name is neither `.` nor `..`. What
+//! breaks the rule, as an argument or in a register, is refused with [`Refusal::UnlawfulKey`].
+//!
+//! [`slash`] judges a key without a register and says where its slash stands. [`split`] gives the
+//! collection and the name as parts of the key:
 //!
 //! ```
-//! use mijdegen::{lookup, Refusal};
+//! use mijdegen::{lookup, slash, split, Refusal};
 //!
 //! let empty = b"\xa2\x61e\x80\x61l\xf6";
 //! for key in ["a/.", "a/..", "a/", "a/b/c"] {
+//!     assert_eq!(slash(key.as_bytes()), Err(Refusal::UnlawfulKey));
 //!     assert_eq!(lookup(empty, key.as_bytes()), Err(Refusal::UnlawfulKey));
 //! }
 //! for key in ["a/...", "./a", "a/.b", "a/b"] {
+//!     assert_eq!(slash(key.as_bytes()), Ok(1));
 //!     assert_eq!(lookup(empty, key.as_bytes()), Err(Refusal::KeyAbsent));
 //! }
+//!
+//! let parts = split(b"app.bsky.feed.post/3jqfcqzm3fo2j")?;
+//! assert_eq!(parts.collection, b"app.bsky.feed.post");
+//! assert_eq!(parts.name, b"3jqfcqzm3fo2j");
+//! # Ok::<(), Refusal>(())
 //! ```
 //!
 //! Keys are ordered byte by byte; a key stands before every longer key that begins with it.
@@ -30,6 +40,8 @@
 //! each page and each key is hashed once. Going through a register of n records by [`list`],
 //! [`at_or_after`] or [`before`] costs n such judgements, and n calls of [`lookup`] or [`put`] the
 //! same. A writing call hashes the pages that it writes as well.
+//!
+//! [`slash`] and [`split`] take time in proportion to the key, of which they read at most 256 bytes.
 //!
 //! A call uses up to 512 KiB of stack and nothing else; threads may call at the same time.
 
@@ -104,6 +116,64 @@ pub fn digest(input: &[u8]) -> Result<Digest, Refusal> {
 pub fn layer(input: &[u8]) -> Result<u8, Refusal> {
     let value = outcome(sys::layer(input))?;
     Ok(u8::try_from(value).expect("the library gives layers from 0 to 128"))
+}
+
+/// Gives the number of bytes before the slash of the key, which is also the slash's place counted
+/// from 0. It is from 1 to 254. The key is judged by the key rule, without a register.
+///
+/// Any bytes are taken, also none. [`split`] gives the parts of the key on both sides of the slash.
+///
+/// # Errors
+///
+/// [`Refusal::UnlawfulKey`] where the bytes break the key rule, however many they are.
+///
+/// # Examples
+///
+/// ```
+/// use mijdegen::{slash, Refusal, LONGEST};
+///
+/// let key = b"app.bsky.feed.post/3jqfcqzm3fo2j";
+/// assert_eq!(slash(key), Ok(18));
+/// assert_eq!(key[..18], *b"app.bsky.feed.post");
+///
+/// assert_eq!(slash(b"app.bsky.feed.post"), Err(Refusal::UnlawfulKey));
+/// assert_eq!(slash(&vec![b'a'; LONGEST + 1]), Err(Refusal::UnlawfulKey));
+/// ```
+pub fn slash(key: &[u8]) -> Result<usize, Refusal> {
+    Ok(count(outcome(sys::slash(key))?))
+}
+
+/// The two parts of a key, which [`split`] gives.
+#[derive(Clone, Copy, Debug, PartialEq, Eq)]
+pub struct Split<'a> {
+    /// The part before the slash, from 1 to 254 bytes.
+    pub collection: &'a [u8],
+    /// The part after the slash, from 1 to 254 bytes.
+    pub name: &'a [u8],
+}
+
+/// Gives the collection and the name of the key, as parts of the lent key: those before and after
+/// the place that [`slash`] gives.
+///
+/// # Errors
+///
+/// Those of [`slash`].
+///
+/// # Examples
+///
+/// ```
+/// use mijdegen::{split, Refusal, Split};
+///
+/// let parts = Split { collection: b"a", name: b"b1" };
+/// assert_eq!(split(b"a/b1"), Ok(parts));
+/// assert_eq!(split(b"a/b1/"), Err(Refusal::UnlawfulKey));
+/// ```
+pub fn split(key: &[u8]) -> Result<Split<'_>, Refusal> {
+    let place = slash(key)?;
+    Ok(Split {
+        collection: &key[..place],
+        name: &key[place + 1..],
+    })
 }
 
 /// Checks the register and gives the count of its records.

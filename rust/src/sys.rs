@@ -8,6 +8,7 @@
 extern "C" {
     fn mijdegen_digest(input: *const u8, input_len: usize, out: *mut [u8; 32]) -> u64;
     fn mijdegen_layer(input: *const u8, input_len: usize) -> u64;
+    fn mijdegen_slash(key: *const u8, key_len: usize) -> u64;
     fn mijdegen_check(reg: *const u8, reg_len: usize) -> u64;
     fn mijdegen_lookup(reg: *const u8, reg_len: usize, key: *const u8, key_len: usize) -> u64;
     fn mijdegen_list(
@@ -107,6 +108,12 @@ pub(crate) fn layer(input: &[u8]) -> u64 {
     // the whole call. The pointer of an empty slice may lead nowhere, but at length 0 it is not
     // read. Nothing is written.
     unsafe { mijdegen_layer(input.as_ptr(), input.len()) }
+}
+
+/// Gives the answer that holds the number of bytes before the key's slash.
+pub(crate) fn slash(key: &[u8]) -> u64 {
+    // SAFETY: As for `layer`.
+    unsafe { mijdegen_slash(key.as_ptr(), key.len()) }
 }
 
 /// Gives the answer that holds the count of the register's records.

@@ -3,7 +3,7 @@
 
 mod common;
 
-use common::calls::{compare_lookup, number_of};
+use common::calls::{compare_lookup, compare_slash, number_of};
 use common::forge::{link_to, Page, EMPTY};
 use common::neighbours::{expect_record, NEIGHBOURS};
 use common::sets::{dot_name_keys, dotted_keys, set, value, Kind, KINDS};
@@ -55,6 +55,7 @@ fn as_arguments() {
     let mut cases = 0;
     for register in registers {
         for key in dot_name_keys() {
+            assert_eq!(compare_slash(&key), Err(7), "{key:?}");
             assert_eq!(compare_lookup(&register, &key), Err(7), "{key:?}");
             for call in NEIGHBOURS {
                 expect_record(&register, call, &key, 300, Err(7));

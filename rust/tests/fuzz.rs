@@ -1,4 +1,4 @@
-//! All thirteen calls on random and damaged registers, against the independent crate.
+//! All fourteen calls on random and damaged registers, against the independent crate.
 //!
 //! The rounds of the gate are always the same. More of them, from another seed:
 //!
@@ -9,7 +9,8 @@
 mod common;
 
 use common::calls::{
-    compare_list, compare_lookup, mijdegen_digest, mijdegen_layer, raw_check, shown, Surrounded,
+    compare_list, compare_lookup, compare_slash, mijdegen_digest, raw_check, raw_layer, shown,
+    Surrounded,
 };
 use common::forge::{link_to, Entry, Page};
 use common::lists::{damaged, drawn_value, out_length, Source};
@@ -52,7 +53,7 @@ fn all_calls() {
             println!("{} rounds, answers by number: {counts:?}", round + 1);
         }
     }
-    assert_eq!(counts.iter().sum::<u64>(), 13 * rounds);
+    assert_eq!(counts.iter().sum::<u64>(), 14 * rounds);
     println!("{rounds} rounds, answers by number: {counts:?}");
     // Every number is answered, and a good part of the calls are done.
     if rounds >= ROUNDS {
@@ -90,7 +91,7 @@ fn sources() -> Vec<Source> {
     sources
 }
 
-/// Runs all thirteen calls once and counts the numbers that they answer.
+/// Runs all fourteen calls once and counts the numbers that they answer.
 fn run(random: &mut Random, sources: &[Source], counts: &mut [u64; 15]) {
     let source = random.one_of(sources);
     let set = draw_set(random, source);
@@ -110,8 +111,14 @@ fn run(random: &mut Random, sources: &[Source], counts: &mut [u64; 15]) {
     count(compare_digest(&input));
     count(compare_layer(&input));
 
-    count(compare_check(&register));
     let key = source.key(random, &set);
+    let asked = match random.below(4) {
+        0 => damaged(random, key.clone()),
+        _ => key.clone(),
+    };
+    count(compare_slash(&asked));
+
+    count(compare_check(&register));
     count(compare_lookup(&register, &key));
     let n = match random.below(8) {
         0 => random.next(),
@@ -189,10 +196,10 @@ fn compare_layer(input: &[u8]) -> Result<usize, u8> {
     let found = layer(input).map_err(Refusal::number);
     assert_eq!(found, expected, "layer of {}", shown(input));
 
-    // SAFETY: The pointer and the length are of one slice.
-    let answer = unsafe { mijdegen_layer(input.as_ptr(), input.len()) };
     let expected = expected.map(usize::from);
-    assert_eq!(answer, common::calls::answer(expected));
+    let found = raw_layer(&mut input.to_vec());
+    let answer = common::calls::answer(expected);
+    assert_eq!(found, answer, "C layer of {}", shown(input));
     expected
 }
 

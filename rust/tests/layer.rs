@@ -2,20 +2,10 @@
 
 mod common;
 
-use common::calls::mijdegen_layer;
+use common::calls::{mijdegen_layer, raw_layer};
 use common::Random;
 use mijdegen::{layer, Refusal, LONGEST};
 use std::ptr::{self, NonNull};
-
-/// Calls the C function and checks that the input stays as it was. Gives the answer.
-fn raw_layer(input: &mut [u8]) -> u64 {
-    let before = input.to_vec();
-    // The pointer comes from a mutable reference, so that a write would be seen below.
-    // SAFETY: The pointer and the length are of one slice.
-    let answer = unsafe { mijdegen_layer(input.as_mut_ptr().cast_const(), input.len()) };
-    assert!(input == before, "the input was changed");
-    answer
-}
 
 #[test]
 fn published_layers() {

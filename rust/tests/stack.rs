@@ -12,7 +12,7 @@ use common::sets::{
 use common::writes::{expect_outcome, expect_table, Call};
 use common::Random;
 use independent::table;
-use mijdegen::{check, digest, layer, list, lookup, Refusal, LONGEST};
+use mijdegen::{check, digest, layer, list, lookup, slash, Refusal, LONGEST};
 use std::thread;
 
 const STACK: usize = 512 * 1024;
@@ -45,10 +45,12 @@ fn digest_and_layer() {
     assert_eq!(found, (Err(Refusal::TooLong), Err(Refusal::TooLong)));
 }
 
-/// Checks the register and looks for the key in it, for its record and for those beside it, on a
-/// small stack; then writes with it. Gives the number that is due, or 0.
+/// Judges the key, checks the register and looks for the key in it, for its record and for those
+/// beside it, on a small stack; then writes with it. Gives the number that is due on the register,
+/// or 0.
 fn call_with_small_stack(register: Vec<u8>, key: &[u8], n: usize) -> u8 {
     // The expected results are made outside the small stack.
+    let before_slash = independent::slash(key);
     let count = independent::check(&register);
     let place = independent::lookup(&register, key);
     let (mut key_out, mut value) = ([0; 256], [0; 32]);
@@ -72,13 +74,15 @@ fn call_with_small_stack(register: Vec<u8>, key: &[u8], n: usize) -> u8 {
     let key = key.to_vec();
     let found = with_small_stack(move || {
         let mut out = [0xaa; 256];
+        let before_slash = slash(&key).map_err(Refusal::number);
         let count = check(&register).map_err(Refusal::number);
         let found = lookup(&register, &key).map_err(Refusal::number).copied();
         let listed = list(&register, n, &mut out).map_err(Refusal::number);
         let listed = listed.map(|listed| listed.map(|listed| (listed.key_length, listed.value)));
-        (count, found, listed, out, register)
+        (before_slash, count, found, listed, out, register)
     });
-    let (found_count, found, listed, out, register) = found;
+    let (found_before_slash, found_count, found, listed, out, register) = found;
+    assert_eq!(found_before_slash, before_slash);
     assert_eq!(found_count, count);
     let expected = place.map(|place| register[place..place + 32].to_vec());
     assert_eq!(found.map(Vec::from), expected);

@@ -8,12 +8,13 @@ use common::sets::{greatest_key, least_key, set, value, Kind};
 use common::writes::{expect_outcome, Call};
 use common::Random;
 use independent::{table, Set};
-use mijdegen::{check, digest, layer, list, lookup_place, Listed, Refusal};
+use mijdegen::{check, digest, layer, list, lookup_place, slash, Listed, Refusal};
 use std::thread;
 
 #[test]
 fn calls_at_the_same_time() {
-    // 4 threads with 2,000 inputs each, all different.
+    // 4 threads with 2,000 inputs each, all different, and as many keys, lawful and not.
+    let source = &Source::new(set(Kind::Mixed, 60).into_keys());
     thread::scope(|scope| {
         for seed in 1..=4 {
             scope.spawn(move || {
@@ -23,6 +24,11 @@ fn calls_at_the_same_time() {
                     let input = random.bytes(length);
                     assert_eq!(digest(&input), Ok(independent::sha256(&input)));
                     assert_eq!(layer(&input), Ok(independent::layer(&input)));
+                    let key = source.key(&mut random, &Set::new());
+                    assert_eq!(
+                        slash(&key).map_err(Refusal::number),
+                        independent::slash(&key)
+                    );
                 }
             });
         }

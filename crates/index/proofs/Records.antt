@@ -13,8 +13,8 @@ use Rattle.key.specs.Key.{lawful, less, order}
 use Rattle.key.specs.Layer.{layerOf}
 use Rattle.key.specs.declared.order.Order.{Order}
 use Rattle.key.specs.declared.order.Order.the-variants.{Less, Equal, Greater}
-use Rattle.key.proofs.Lawful.{too-long}
-use Rattle.key.proofs.Laws.{layer-le, less-order, order-less}
+use Rattle.key.proofs.Lawful.{long-unlawful}
+use Rattle.key.proofs.Laws.{lawful-length, layer-le, less-order, order-less}
 use Rattle.index.specs.Slot.{Slot, keyOf, lawfulSlots, risingAfter, lastAfter, levelSlots}
 use Rattle.index.specs.Buffer.{HoldsKey}
 use Rattle.index.specs.Walk.{WordOf, blank, Indexes, LastIs, LawfulIs, RisesIs, LayerIs, Noted, Moved, Taken}
@@ -22,13 +22,10 @@ use Rattle.index.specs.declared.walk.State.{State}
 use Rattle.index.proofs.Buffers.{holds-whole}
 
 -- ---- the key rule
-lawful-short : (k : List ℕ) → lawful k ≡ true → length k ≤ 256
-lawful-short k e = cases (ltb 256 (length k)) (λ q. absurd (false≢true (too-long k (ltb-true 256 (length k) q) ∙ e))) (λ q. ltb-false 256 (length k) q)
-
 module _ (buffer : List ℕ) (size : ℕ) where
   pub key-too-long : 256 ≤ length buffer → length buffer < size → LawfulIs buffer size false
   unfolding LawfulIs
-  key-too-long h g k w = too-long k (omega (arith, w .size))
+  key-too-long h g k w = sym (long-unlawful k (omega (arith, w .size)))
 
   pub key-tested : size ≤ length buffer → (r : Bool) → r ≡ lawful (take size buffer) → LawfulIs buffer size r
   unfolding LawfulIs
@@ -143,7 +140,7 @@ module _ (index last buffer : List ℕ) (top level pg at size : ℕ) (st : State
     lawful-now = sym (el (keyOf x) holds)
 
     short-now : lawful (keyOf x) ≡ true → size ≤ length buffer
-    short-now h = omega (arith, lawful-short (keyOf x) h, holds .size)
+    short-now h = omega (arith, lawful-length (keyOf x) h, holds .size)
 
     layer-now : lawful (keyOf x) ≡ true → layer ≡ layerOf (keyOf x)
     unfolding LayerIs

@@ -1,10 +1,11 @@
 // The walk over a register's pages.
 use crate::buffer::extend;
 use crate::buffer::prefixes_fit;
+use answer::Answer;
 use key::layers::layer_of;
 use key::order::Order;
 use key::order::compare;
-use key::rule::is_lawful;
+use key::slash;
 use page::reading::EntryRead;
 use page::reading::PageAt;
 use page::reading::PageRead;
@@ -108,7 +109,10 @@ fn key_is_lawful(buffer: &[u8], size: usize) -> bool
     if buffer.len() < size {
         return false;
     }
-    is_lawful(&buffer[..size])
+    match slash(&buffer[..size]) {
+        Answer::Done(_) => true,
+        Answer::Refused(_) => false,
+    }
 }
 
 // Whether the key in a buffer is greater than the last key.

@@ -1,25 +1,26 @@
--- The key rule as the code tries it: the ranges of ordinary bytes, the run of ordinary bytes, the names . and .., and what these tell of a
--- key.
-use Prim.Native.Nat.{ℕ, zero, suc, _+_, _-_, _≤_, _<_}
+-- The key rule as the code tries it: the table of ordinary bytes, the pass over a key, the names . and .., and what these tell of a key.
+use Prim.Native.Nat.{ℕ, zero, suc, _+_, _-_, _≤_, _<_, zero-le, suc-le-suc}
 use mathlib.Core.Path.{_≡_, refl, sym, ap, _∙_}
-use mathlib.Core.Bool.{Bool, true, false, _&&_, Bool·beq, and-true, and-false, false≢true}
-use mathlib.Core.List.{List, [], _∷_, _++_, append-nil}
+use mathlib.Core.Bool.{Bool, true, false, cond, _&&_, Bool·beq, and-true, and-false, false≢true}
+use mathlib.Core.List.{List, [], _∷_}
 use native.Mathlib.Omega.{arith}
-use native.Mathlib.Nat.{not-suc-le-zero, zero-add, suc-add}
+use native.Mathlib.Nat.{zero-add, add-zero}
 use native.Mathlib.Numerals.{add-one}
-use lib.Dec.{eqb, eqb·suc-suc, eqb·zero-suc}
+use lib.Dec.{eqb, leb}
 use lib.ListN.{length, take, drop, getD, drop-of-length-le, length-drop}
-use lib.Seq.{drop-cons, take-all, length-take-le}
+use lib.Seq.{drop-cons, take-all}
 use borrow.Author.Tests.{eqb-true, eqb-false, eq-eqb, ne-eqb, le-leb, lt-leb}
 use borrow.Table.Steps.{cases}
-use Rattle.key.specs.Key.{slash, dot, ordinary, collection, name, allOrdinary, isDotName, lawful}
-use Rattle.key.specs.Inner.{run}
+use Rattle.answer.specs.declared.Answer.the-variants.{Done, Refused}
+use Rattle.answer.specs.declared.Refusal.the-variants.{UnlawfulKey}
+use Rattle.key.specs.Key.{slashByte, dot, ordinary, collection, name, allOrdinary, isDotName, lawful, slashAnswer}
+use Rattle.key.specs.Inner.{hasBit, onlySlash, slashOrEnd}
 
--- ---- ranges of bytes
--- whether ordinary is f at each of the n numbers from low on: a test that antt computes
-unfoldable pub agrees : (ℕ → Bool) → ℕ → ℕ → Bool
-agrees f low zero = true
-agrees f low (suc n) = Bool·beq (f (low + n)) (ordinary (low + n)) && agrees f low n
+-- ---- the table of ordinary bytes
+-- whether f is ordinary at each of the n numbers from 0 on: a test that antt computes
+unfoldable pub agrees : (ℕ → Bool) → ℕ → Bool
+agrees f zero = true
+agrees f (suc n) = Bool·beq (f n) (ordinary n) && agrees f n
 
 equal-and-rest : (a b rest : Bool) → Bool·beq a b && rest ≡ true → (a ≡ b) × (rest ≡ true)
 equal-and-rest true true rest h = (refl, h)
@@ -27,74 +28,82 @@ equal-and-rest true false rest h = absurd (false≢true h)
 equal-and-rest false true rest h = absurd (false≢true h)
 equal-and-rest false false rest h = (refl, h)
 
-pub agreed : (f : ℕ → Bool) (low n : ℕ) → agrees f low n ≡ true → (b : ℕ) → low ≤ b → b < low + n → f b ≡ ordinary b
+agreed : (f : ℕ → Bool) (n : ℕ) → agrees f n ≡ true → (b : ℕ) → b < n → f b ≡ ordinary b
 unfolding agrees
-agreed f low zero h b from below = absurd (omega arith)
-agreed f low (suc n) h b from below =
-    let w = equal-and-rest (f (low + n)) (ordinary (low + n)) (agrees f low n) h in
-    cases (eqb b (low + n))
-    (λ e. rw (eqb-true b (low + n) e) (w .0))
-    (λ e. agreed f low n (w .1) b from (omega (arith, eqb-false b (low + n) e)))
+agreed f zero h b below = absurd (omega arith)
+agreed f (suc n) h b below =
+    let w = equal-and-rest (f n) (ordinary n) (agrees f n) h in
+    cases (eqb b n)
+    (λ e. rw (eqb-true b n e) (w .0))
+    (λ e. agreed f n (w .1) b (omega (arith, eqb-false b n e)))
 
--- ---- the run at index i of a key
-module _ (k : List ℕ) (i : ℕ) where
-  pub run-ends : length k ≤ i → run (drop i k) ≡ 0
-  unfolding run
-  run-ends h = rw (drop-of-length-le k h)
+pub table-told : (r : Bool) (table : List ℕ) (b : ℕ) → r ≡ hasBit table b → b < 256 → agrees (hasBit table) 256 ≡ true → r ≡ ordinary b
+table-told r table b e small h = e ∙ agreed (hasBit table) 256 h b small
 
-  pub run-stops : i < length k → ordinary (getD k i 0) ≡ false → run (drop i k) ≡ 0
-  unfolding run
-  run-stops h e = rw (drop-cons k i 0 h, e)
+-- ---- the pass over a key of n bytes
+-- what it answers, from byte i on, of the bytes that are left: at is where the slash stood, or n where there was none so far
+unfoldable pub passed : ℕ → ℕ → ℕ → List ℕ → ℕ
+passed n at i [] = at
+passed n at i (b ∷ s) =
+    let next : ℕ = passed n at (i + 1) s in
+    let first : ℕ = passed n i (i + 1) s in
+    cond (ordinary b) next (cond (eqb b slashByte && leb n at) first n)
 
-  pub run-goes-on : i < length k → ordinary (getD k i 0) ≡ true → run (drop i k) ≡ suc (run (drop (i + 1) k))
-  unfolding run
-  run-goes-on h e = rw (drop-cons k i 0 h, e, add-one)
+-- the ways that a turn of the loop goes
+module _ (k : List ℕ) (n at i : ℕ) where
+  pub pass-ends : length k ≤ i → passed n at i (drop i k) ≡ at
+  unfolding passed
+  pass-ends h = rw (drop-of-length-le k h)
 
--- ---- what the run tells of a key's two parts
-slash-not-ordinary : ordinary slash ≡ false
+  module _ (h : i < length k) where
+    pub pass-ordinary : ordinary (getD k i 0) ≡ true → passed n at i (drop i k) ≡ passed n at (i + 1) (drop (i + 1) k)
+    unfolding passed
+    pass-ordinary e = rw (drop-cons k i 0 h, e, add-one)
+
+    module _ (e : ordinary (getD k i 0) ≡ false) where
+      pub pass-other : (getD k i 0 ≡ slashByte → ⊥) → passed n at i (drop i k) ≡ n
+      unfolding passed
+      pass-other f = rw (drop-cons k i 0 h, e, ne-eqb (getD k i 0) slashByte f)
+
+      pub pass-second : at < n → passed n at i (drop i k) ≡ n
+      unfolding passed
+      pass-second l = rw (drop-cons k i 0 h, e, lt-leb n at l, and-false)
+
+      pub pass-slash : getD k i 0 ≡ slashByte → n ≤ at → passed n at i (drop i k) ≡ passed n i (i + 1) (drop (i + 1) k)
+      unfolding passed
+      pass-slash q l = rw (drop-cons k i 0 h, e, eq-eqb (getD k i 0) slashByte q, le-leb n at l, add-one)
+
+-- ---- what the pass tells of a key
+slash-not-ordinary : ordinary slashByte ≡ false
 unfolding ordinary
 slash-not-ordinary = refl
 
-ordinary-no-slash : (b : ℕ) → ordinary b ≡ true → eqb b slash ≡ false
-ordinary-no-slash b h = ne-eqb b slash (λ e. false≢true (sym slash-not-ordinary ∙ ap ordinary (sym e) ∙ h))
+pub ordinary-no-slash : (b : ℕ) → ordinary b ≡ true → eqb b slashByte ≡ false
+ordinary-no-slash b h = ne-eqb b slashByte (λ e. false≢true (sym slash-not-ordinary ∙ ap ordinary (sym e) ∙ h))
 
--- the collection begins with the run
-collection-past : (k : List ℕ) → collection k ≡ take (run k) k ++ collection (drop (run k) k)
-unfolding run collection
-collection-past [] = refl
-collection-past (b ∷ k) =
-    cases (ordinary b) (λ e. rw (e, ordinary-no-slash b e) (ap (λ (l : List ℕ). b ∷ l) (collection-past k))) (λ e. rw e)
+-- after the slash
+pass-name : (n at i : ℕ) (s : List ℕ) → at < n → passed n at i s ≡ cond (allOrdinary s) at n
+unfolding passed allOrdinary
+pass-name n at i [] h = refl
+pass-name n at i (b ∷ s) h =
+    cases (ordinary b) (λ e. rw e (pass-name n at (i + 1) s h)) (λ e. rw (e, lt-leb n at h, and-false))
 
--- the name comes after it
-name-past : (k : List ℕ) → name k ≡ name (drop (run k) k)
-unfolding run name
-name-past [] = refl
-name-past (b ∷ k) = cases (ordinary b) (λ e. rw (e, ordinary-no-slash b e) (name-past k)) (λ e. rw e)
-
--- the run is ordinary
-all-past : (k t : List ℕ) → allOrdinary (take (run k) k ++ t) ≡ allOrdinary t
-unfolding run allOrdinary
-all-past [] t = refl
-all-past (b ∷ k) t = cases (ordinary b) (λ e. rw (e, e) (all-past k t)) (λ e. rw e)
-
--- the byte behind it is not
-other-behind : (k : List ℕ) → run k < length k → ordinary (getD k (run k) 0) ≡ false
-unfolding run
-other-behind [] h = absurd (not-suc-le-zero h)
-other-behind (b ∷ k) h = cases (ordinary b) (λ e. rw e (other-behind k (omega (arith, rw e at h)))) (λ e. rw e e)
-
--- ordinary bytes alone are a run to the end
-all-run : (s : List ℕ) → allOrdinary s ≡ eqb (run s) (length s)
-unfolding run allOrdinary
-all-run [] = refl
-all-run (b ∷ s) =
+-- before it
+pass-key : (n i : ℕ) (s : List ℕ) → i + length s ≡ n → passed n n i s ≡ cond (onlySlash s) (i + length (collection s)) n
+unfolding passed collection name allOrdinary onlySlash
+pass-key n i [] h = sym h
+pass-key n i (b ∷ s) h =
     cases (ordinary b)
-    (λ e. rw e (all-run s ∙ sym (eqb·suc-suc (run s) (length s))))
-    (λ e. rw e (sym (eqb·zero-suc (length s))))
+    (λ e.
+    let m : i + suc (length (collection s)) ≡ i + 1 + length (collection s) = omega arith in
+    rw (e, ordinary-no-slash b e, e, m) (pass-key n (i + 1) s (omega arith)))
+    (λ e. cases (eqb b slashByte)
+    (λ q. rw (e, q, le-leb n n (omega arith), add-zero) (pass-name n i (i + 1) s (omega arith)))
+    (λ q. rw (e, q, e)))
 
-eqb-add : (n a b : ℕ) → eqb (n + a) (n + b) ≡ eqb a b
-eqb-add zero a b = simp zero-add
-eqb-add (suc n) a b = simp suc-add (eqb·suc-suc (n + a) (n + b) ∙ eqb-add n a b)
+pub pass-whole : (k : List ℕ) → passed (length k) (length k) 0 k ≡ slashOrEnd k
+unfolding slashOrEnd
+pass-whole k = pass-key (length k) 0 k (omega arith) ∙ rw zero-add
 
 -- ---- the names . and .. by their length
 pub dots-one : (s : List ℕ) → length s ≡ 1 → eqb (getD s 0 0) dot ≡ isDotName s
@@ -114,91 +123,89 @@ dots-other (a ∷ []) f g = absurd (f refl)
 dots-other (a ∷ b ∷ []) f g = absurd (g refl)
 dots-other (a ∷ b ∷ c ∷ s) f g = refl
 
+-- ---- the parts of any string of bytes
+collection-le : (k : List ℕ) → length (collection k) ≤ length k
+unfolding collection
+collection-le [] = zero-le
+collection-le (b ∷ k) = cases (eqb b slashByte) (λ e. rw e zero-le) (λ e. rw e (suc-le-suc (collection-le k)))
+
+pub name-is : (k : List ℕ) → name k ≡ drop (suc (length (collection k))) k
+unfolding collection name
+name-is [] = refl
+name-is (b ∷ k) = cases (eqb b slashByte) (λ e. rw e) (λ e. rw e (name-is k))
+
 -- ---- the ways that the code answers
 module _ (k : List ℕ) where
-  pub too-short : length k < 3 → false ≡ lawful k
-  unfolding lawful
-  too-short h = rw (lt-leb 3 (length k) h)
+  pub slash-none : lawful k ≡ false → slashAnswer k ≡ Refused UnlawfulKey
+  unfolding slashAnswer
+  slash-none e = rw e
 
-  pub too-long : 256 < length k → false ≡ lawful k
+  pub long-unlawful : 256 < length k → lawful k ≡ false
   unfolding lawful
-  too-long h = simp (lt-leb (length k) 256 h, and-false)
+  long-unlawful h = simp (lt-leb (length k) 256 h, and-false)
 
-  no-collection : length (collection k) ≡ 0 → false ≡ lawful k
+  no-collection : length (collection k) ≡ 0 → lawful k ≡ false
   unfolding lawful
   no-collection e = simp (e, and-false)
 
-  no-name : length (name k) ≡ 0 → false ≡ lawful k
+  pub no-name : length (name k) ≡ 0 → lawful k ≡ false
   unfolding lawful
   no-name e = simp (e, and-false)
 
--- at is where the run ends
-module _ (k : List ℕ) (at : ℕ) (a : at ≡ run k) where
-  pub no-slash : length k ≤ at → false ≡ lawful k
-  unfolding name
-  no-slash h = no-name k (rw (name-past k, ← a, drop-of-length-le k h))
+  other-bytes : onlySlash k ≡ false → lawful k ≡ false
+  unfolding lawful onlySlash
+  other-bytes e =
+      cases (allOrdinary (collection k))
+      (λ c. let f : allOrdinary (name k) ≡ false = rw c at e in simp (f, and-false))
+      (λ c. simp (c, and-false))
 
-  module _ (h : at < length k) where
-    other-at : ordinary (getD k at 0) ≡ false
-    other-at = rw a (other-behind k (rw a at h))
+  pub lawful-parts : lawful k ≡ true → (allOrdinary (collection k) ≡ true) × (allOrdinary (name k) ≡ true)
+  unfolding onlySlash
+  lawful-parts h =
+      let only : onlySlash k ≡ true = cases (onlySlash k) (λ e. e) (λ e. absurd (false≢true (sym (other-bytes e) ∙ h))) in
+      cases (allOrdinary (collection k)) (λ e. (e, rw e at only)) (λ e. absurd (false≢true (rw e at only)))
 
-    pub other-byte : (getD k at 0 ≡ slash → ⊥) → false ≡ lawful k
-    unfolding collection allOrdinary lawful
-    other-byte f =
-        let c : allOrdinary (collection k) ≡ false =
-        rw (collection-past k, all-past, ← a, drop-cons k at 0 h, ne-eqb (getD k at 0) slash f, other-at) in
-        simp (c, and-false)
+  pub long-refused : 256 < length k → Refused UnlawfulKey ≡ slashAnswer k
+  long-refused h = sym (slash-none (long-unlawful h))
 
-    module _ (e : getD k at 0 ≡ slash) where
-      collection-is : collection k ≡ take at k
-      unfolding collection
-      collection-is = rw (collection-past k, ← a, drop-cons k at 0 h, eq-eqb (getD k at 0) slash e) (append-nil (take at k))
+  -- at is what the pass answered
+  module _ (at : ℕ) (a : at ≡ slashOrEnd k) where
+    by-bytes {κ} : {C : Type κ} → (lawful k ≡ false → at ≡ length k → C) → (onlySlash k ≡ true → at ≡ length (collection k) → C) → C
+    unfolding slashOrEnd
+    by-bytes f g = cases (onlySlash k) (λ e. g e (rw e at a)) (λ e. f (other-bytes e) (rw e at a))
 
-      collection-length : length (collection k) ≡ at
-      collection-length = rw collection-is (length-take-le at k (omega arith))
+    name-length : at ≡ length (collection k) → length (name k) ≡ length k - (at + 1)
+    name-length e = rw (name-is k, e, add-one) (simp length-drop)
 
-      collection-ordinary : allOrdinary (collection k) ≡ true
-      unfolding allOrdinary
-      collection-ordinary = rw collection-is (ap allOrdinary (sym (append-nil (take at k))) ∙ rw a (all-past k []))
+    pub within : at ≤ length k
+    within = by-bytes (λ _ e. omega arith) (λ _ e. omega (arith, collection-le k))
 
-      name-is : name k ≡ drop (suc at) k
-      unfolding name
-      name-is = rw (name-past k, ← a, drop-cons k at 0 h, eq-eqb (getD k at 0) slash e)
+    pub nothing-before : at ≡ 0 → Refused UnlawfulKey ≡ slashAnswer k
+    nothing-before z = sym (slash-none (by-bytes (λ f _. f) (λ _ e. no-collection (sym e ∙ z))))
 
-      name-length : suc at + length (name k) ≡ length k
-      name-length = rw name-is (simp length-drop (omega arith))
+    pub nothing-after : length k - at < 2 → Refused UnlawfulKey ≡ slashAnswer k
+    nothing-after h = sym (slash-none (by-bytes (λ f _. f) (λ _ e. no-name (omega (arith, name-length e)))))
 
-      pub nothing-before : at ≡ 0 → false ≡ lawful k
-      nothing-before z = no-collection k (collection-length ∙ z)
+    -- some byte stands on each side of the slash, and d says whether the part after it is . or ..
+    module _ (f : at ≡ 0 → ⊥) (h : 2 ≤ length k - at) (d : Bool) (l : d ≡ isDotName (take (length k - (at + 1)) (drop (at + 1) k))) where
+      name-told : at ≡ length (collection k) → isDotName (name k) ≡ d
+      name-told e = rw (l, name-is k, ← e, add-one, take-all (length k - suc at) (drop (suc at) k) (simp length-drop (omega arith)))
 
-      pub nothing-after : at + 1 ≡ length k → false ≡ lawful k
-      nothing-after z = no-name k (omega (arith, name-length))
+      pub dots-after : d ≡ true → Refused UnlawfulKey ≡ slashAnswer k
+      unfolding lawful
+      dots-after y = sym (slash-none (by-bytes (λ u _. u) (λ _ e. simp (name-told e, y, and-false))))
 
-      -- d says whether the part after the slash is . or ..
-      module _ (d : Bool) (l : d ≡ isDotName (take (length k - (at + 1)) (drop (at + 1) k))) where
-        dots-told : isDotName (name k) ≡ d
-        dots-told = rw (l, name-is, add-one, take-all (length k - suc at) (drop (suc at) k) (simp length-drop (omega arith)))
-
-        pub dots-after : d ≡ true → false ≡ lawful k
-        unfolding lawful
-        dots-after y = simp (dots-told, y, and-false)
-
-        -- r is where the run behind the slash ends
-        pub two-parts : 3 ≤ length k → length k ≤ 256 → (at ≡ 0 → ⊥) → (at + 1 ≡ length k → ⊥) → d ≡ false
-            → (r : ℕ) → r ≡ at + 1 + run (drop (at + 1) k) → eqb r (length k) ≡ lawful k
-        unfolding lawful
-        two-parts low high f g n r q =
-            let p : eqb r (length k) ≡ allOrdinary (name k) =
-            rw (q, add-one, ← name-is, all-run (name k), ← name-length) (eqb-add (suc at) (run (name k)) (length (name k))) in
-            rw (
-              p,
-              le-leb 3 (length k) low,
-              le-leb (length k) 256 high,
-              collection-length,
-              le-leb 1 at (omega arith),
-              collection-ordinary,
-              le-leb 1 (length (name k)) (omega (arith, name-length)),
-              dots-told,
-              n,
-              and-true,
-            )
+      pub two-parts : length k ≤ 256 → d ≡ false → Done at ≡ slashAnswer k
+      unfolding lawful onlySlash slashAnswer
+      two-parts short y =
+          by-bytes
+          (λ _ e. absurd (omega arith))
+          (λ o e. rw (
+            le-leb 3 (length k) (omega arith),
+            le-leb (length k) 256 short,
+            ← e,
+            le-leb 1 at (omega arith),
+            le-leb 1 (length (name k)) (omega (arith, name-length e)),
+            name-told e,
+            y,
+          ) (simp and-true (rw o)))

@@ -13,15 +13,15 @@ use Rattle.fips180.specs.Bytes.{Bytes}
 use Rattle.fips180.specs.Hash.{sha256}
 use Rattle.fips180.proofs.Laws.{length-sha256}
 use Rattle.key.specs.declared.order.Order.the-variants.{Less, Equal, Greater}
-use Rattle.key.specs.Key.{slash, ordinary, collection, name, allOrdinary, lawful, less, order, shared}
+use Rattle.key.specs.Key.{slashByte, ordinary, collection, name, allOrdinary, lawful, less, order, shared}
 use Rattle.key.specs.Layer.{bits, bitsOf, leadingZeroBits, layerOfDigest, layerOf}
 use Rattle.key.proofs.Bits.{length-bits}
-use Rattle.key.proofs.Lawful.{too-long}
+use Rattle.key.proofs.Lawful.{long-unlawful, lawful-parts}
 
 -- ---- lawful keys
 pub lawful-length : (k : List ℕ) → lawful k ≡ true → length k ≤ 256
 lawful-length k h =
-    cases (leb (length k) 256) (leb-true (length k) 256) (λ e. absurd (false≢true (too-long k (leb-false (length k) 256 e) ∙ h)))
+    cases (leb (length k) 256) (leb-true (length k) 256) (λ e. absurd (false≢true (sym (long-unlawful k (leb-false (length k) 256 e)) ∙ h)))
 
 -- every byte of a lawful key is the slash or ordinary, and these are below 256
 not-ordinary : (b : ℕ) → 256 ≤ b → ordinary b ≡ false
@@ -54,16 +54,12 @@ parts-bytes : (k : List ℕ) → allOrdinary (collection k) ≡ true → allOrdi
 unfolding collection name allOrdinary
 parts-bytes [] h j = tt
 parts-bytes (b ∷ k) h j =
-    cases (eqb b slash)
-    (λ e. (omega (arith, eqb-true b slash e), ordinary-bytes k (rw e at j)))
+    cases (eqb b slashByte)
+    (λ e. (omega (arith, eqb-true b slashByte e), ordinary-bytes k (rw e at j)))
     (λ e. cases (ordinary b) (λ f. (ordinary-small b f, parts-bytes k (rw (e, f) at h) (rw e at j))) (λ f. absurd (false≢true (rw (e, f) at h))))
 
 pub lawful-bytes : (k : List ℕ) → lawful k ≡ true → Bytes k
-unfolding lawful
-lawful-bytes k h =
-    cases (allOrdinary (collection k))
-    (λ e. cases (allOrdinary (name k)) (parts-bytes k e) (λ f. absurd (false≢true (simp (f, and-false) at h))))
-    (λ e. absurd (false≢true (simp (e, and-false) at h)))
+lawful-bytes k h = let w = lawful-parts k h in parts-bytes k (w .0) (w .1)
 
 -- ---- layers
 zeros-le : (s : List ℕ) → leadingZeroBits s ≤ length s

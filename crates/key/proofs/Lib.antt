@@ -1,4 +1,5 @@
 pub mod Lawful
+pub mod SlashLaws
 pub mod Shared
 pub mod Bits
 pub mod Rows

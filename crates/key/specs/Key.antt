@@ -1,15 +1,19 @@
--- Keys: the key rule, their order, and the leading bytes that two keys share.
+-- Keys: the key rule, where the slash stands, their order, and the leading bytes that two keys share.
 use Prim.Native.Nat.{ℕ, suc}
+use mathlib.Core.Path.{_≡_}
 use mathlib.Core.Bool.{Bool, true, false, cond, not, _&&_, _||_}
-use mathlib.Core.List.{List, [], _∷_}
-use lib.ListN.{length}
+use mathlib.Core.List.{List, [], _∷_, _++_}
+use lib.ListN.{length, getD}
 use lib.Dec.{eqb, ltb, leb}
+use Rattle.answer.specs.declared.Answer.{Answer}
+use Rattle.answer.specs.declared.Answer.the-variants.{Done, Refused}
+use Rattle.answer.specs.declared.Refusal.the-variants.{UnlawfulKey}
 use Rattle.key.specs.declared.order.Order.{Order}
 use Rattle.key.specs.declared.order.Order.the-variants.{Less, Equal, Greater}
 
--- The slash between the two parts of a key.
-abbrev pub slash : ℕ
-slash = 0x2F
+-- The byte between the two parts of a key.
+abbrev pub slashByte : ℕ
+slashByte = 0x2F
 
 -- The byte of the names . and ..
 abbrev pub dot : ℕ
@@ -29,14 +33,14 @@ unfoldable pub collection : List ℕ → List ℕ
 collection [] = []
 collection (b ∷ k) =
     let rest : List ℕ = b ∷ collection k in
-    cond (eqb b slash) [] rest
+    cond (eqb b slashByte) [] rest
 
 -- The part after the first slash: nothing where there is none.
 unfoldable pub name : List ℕ → List ℕ
 name [] = []
 name (b ∷ k) =
     let rest : List ℕ = name k in
-    cond (eqb b slash) k rest
+    cond (eqb b slashByte) k rest
 
 -- Ordinary bytes alone.
 unfoldable pub allOrdinary : List ℕ → Bool
@@ -58,6 +62,18 @@ lawful k =
     && leb 1 (length (collection k)) && allOrdinary (collection k)
     && leb 1 (length (name k)) && allOrdinary (name k)
     && not (isDotName (name k))
+
+-- The slash call: number 7 where the key rule is broken, otherwise the number of bytes before the slash.
+unfoldable pub slashAnswer : List ℕ → Answer
+slashAnswer k = cond (lawful k) (Done (length (collection k))) (Refused UnlawfulKey)
+
+-- The slash of a key stands after n bytes: the byte there is a slash and no other byte is one, and the key is its collection of n bytes, the
+-- slash and its name. (getD k i 0 is the byte of k that i others come before, and 0 past the end.)
+pub record SlashAfter (k : List ℕ) (n : ℕ) : Type 0 where
+  pub there : getD k n 0 ≡ slashByte
+  pub nowhereElse : (i : ℕ) → getD k i 0 ≡ slashByte → i ≡ n
+  pub parts : k ≡ collection k ++ (slashByte ∷ name k)
+  pub bytesBefore : length (collection k) ≡ n
 
 -- Keys are ordered byte by byte; a key stands before every longer key that begins with it.
 unfoldable pub less : List ℕ → List ℕ → Bool

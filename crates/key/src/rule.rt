@@ -1,61 +1,50 @@
-// The key rule. The functions are for the crates above and no public calls.
+// The parts of the key rule. The functions are for this crate and no public calls.
 ghost use mathlib.Core.Path.{_≡_};
-ghost use Prim.Native.Nat.{_+_, _≤_};
-ghost use lib.ListN.{length, drop};
-ghost use Rattle.key.specs.Key.{ordinary, isDotName, lawful};
-ghost use Rattle.key.specs.Inner.{run};
+ghost use Rattle.key.specs.Key.{ordinary, isDotName};
+ghost use Rattle.key.specs.Inner.{hasBit, slashOrEnd};
 
-// Whether a byte may stand beside the slash. The ranges are tried from the lowest byte up.
+// The ordinary bytes, as a table of bits.
+const ORDINARY: [u64; 4] = [0x07ff_6000_0000_0000, 0x47ff_fffe_87ff_fffe, 0, 0];
+
+// Whether the bit of a byte is 1.
+fn has_bit(table: [u64; 4], b: u8) -> bool
+    ensures { λ r. ⌜ r ≡ hasBit table b ⌝ }
+{
+    (table[(b / 64) as usize] >> (b % 64)) % 2 == 1
+}
+
+// Whether a byte may stand beside the slash.
 fn is_ordinary(b: u8) -> bool
     ensures { λ r. ⌜ r ≡ ordinary b ⌝ }
 {
-    if b < b'-' {
-        return false;
-    }
-    if b <= b'.' {
-        return true;
-    }
-    if b < b'0' {
-        return false;
-    }
-    if b <= b':' {
-        return true;
-    }
-    if b < b'A' {
-        return false;
-    }
-    if b <= b'Z' {
-        return true;
-    }
-    if b == b'_' {
-        return true;
-    }
-    if b < b'a' {
-        return false;
-    }
-    if b <= b'z' {
-        return true;
-    }
-    b == b'~'
+    has_bit(ORDINARY, b)
 }
 
-// The end of the ordinary bytes that begin at from.
-fn run_end(key: &[u8], from: usize) -> usize
-    requires { ⌜ from ≤ length (now key) ⌝ }
-    ensures { λ r. ⌜ r ≡ from + run (drop from (now (key .entry))) ⌝ }
+// Where the slash stands, if all other bytes are ordinary; otherwise the end of the key. Each byte is read once.
+pub(crate) fn slash_or_end(key: &[u8]) -> usize
+    ensures { λ r. ⌜ r ≡ slashOrEnd (now (key .entry)) ⌝ }
 {
-    let mut i = from;
-    while i < key.len() {
-        if !is_ordinary(key[i]) {
-            return i;
+    let n = key.len();
+    let mut at = n;
+    let mut i = 0;
+    while i < n {
+        let b = key[i];
+        if !is_ordinary(b) {
+            if b != b'/' {
+                return n;
+            }
+            if at < n {
+                return n;
+            }
+            at = i;
         }
         i += 1;
     }
-    i
+    at
 }
 
 // Whether a name is . or .., which no key may have.
-fn is_dot_name(name: &[u8]) -> bool
+pub(crate) fn is_dot_name(name: &[u8]) -> bool
     ensures { λ r. ⌜ r ≡ isDotName (now (name .entry)) ⌝ }
 {
     let n = name.len();
@@ -64,35 +53,4 @@ fn is_dot_name(name: &[u8]) -> bool
         2 => name[0] == b'.' && name[1] == b'.',
         _ => false,
     }
-}
-
-// Whether a string of bytes is a lawful key.
-pub fn is_lawful(key: &[u8]) -> bool
-    ensures { λ r. ⌜ r ≡ lawful (now (key .entry)) ⌝ }
-{
-    let n = key.len();
-    if n < 3 {
-        return false;
-    }
-    if 256 < n {
-        return false;
-    }
-    let at = run_end(key, 0);
-    if n <= at {
-        return false;
-    }
-    if key[at] != b'/' {
-        return false;
-    }
-    if at == 0 {
-        return false;
-    }
-    let from = at + 1;
-    if from == n {
-        return false;
-    }
-    if is_dot_name(&key[from..]) {
-        return false;
-    }
-    run_end(key, from) == n
 }

@@ -2,6 +2,7 @@
 ghost use mathlib.Core.Path.{_≡_};
 ghost use Rattle.answer.specs.Answer.{encoded, encodedDifference};
 ghost use Rattle.sha256.specs.Digest.{digestAnswer, digestOutput};
+ghost use Rattle.key.specs.Key.{slashAnswer};
 ghost use Rattle.key.specs.Layer.{layerAnswer};
 ghost use lib.ListN.{length};
 ghost use Rattle.promises.specs.Difference.{differenceOutcome, differenceAnswer, differenceOutput};
@@ -21,6 +22,13 @@ pub extern "C" fn mijdegen_layer(input: &[u8]) -> u64
     ensures { λ r. ⌜ r ≡ encoded (layerAnswer (now (input .entry))) ⌝ }
 {
     answer::encode(key::layer(input))
+}
+
+#[no_mangle]
+pub extern "C" fn mijdegen_slash(input: &[u8]) -> u64
+    ensures { λ r. ⌜ r ≡ encoded (slashAnswer (now (input .entry))) ⌝ }
+{
+    answer::encode(key::slash(input))
 }
 
 #[no_mangle]

@@ -10,12 +10,14 @@ use lib.ListN.{length, take, drop}
 use lib.Dec.{eqb, leb}
 use borrow.Author.Tests.{eqb-false, leb-true, leb-false, lt-leb, le-leb, ne-eqb}
 use borrow.Table.Steps.{cases}
-use Rattle.answer.specs.Answer.{numberOf, doneWith, saidOfDifference}
+use Rattle.answer.specs.Answer.{numberOf, doneWith, said, saidOfDifference}
 use Rattle.answer.specs.declared.Refusal.{Refusal}
 use Rattle.answer.specs.declared.Refusal.the-variants.{TooManyRecords, UnlawfulKey, ValueLength, KeyAbsent, NoRoom}
 use Rattle.fips180.specs.Bytes.{ByteString}
 use Rattle.sha256.specs.Digest.{longest}
 use Rattle.key.specs.Key.{lawful, less}
+use Rattle.key.proofs.Lawful.{slash-none}
+use Rattle.key.proofs.SlashLaws.{slash-stands}
 use Rattle.page.specs.Page.{isValue}
 use Rattle.page.proofs.Tools.{and-both}
 use Rattle.tree.specs.Record.{Record, records, spelt}
@@ -30,7 +32,7 @@ use Rattle.promises.specs.Difference.{differenceRecords, settleDifferenc
 use Rattle.promises.specs.Register.{RegisterOf}
 use Rattle.promises.specs.Reply.{Reply, recordReply, writingReply, differenceReply}
 use Rattle.promises.specs.Order.{AllZero, Refuses, Judged, Check, filled, Measured, ResultFinds, GivesRecord}
-use Rattle.promises.specs.Promises.{CheckReplies, LookupReplies, ListReplies, PutReplies, JoinReplies, RemoveReplies, MergeReplies, DifferenceReplies, DifferenceIsExact}
+use Rattle.promises.specs.Promises.{SlashReplies, CheckReplies, LookupReplies, ListReplies, PutReplies, JoinReplies, RemoveReplies, MergeReplies, DifferenceReplies, DifferenceIsExact}
 use Rattle.promises.proofs.MapLaws.{sorted-rising, nth-past, find-merge, Proper, fits-proper, proper-put, proper-join, proper-remove, proper-merge}
 use Rattle.promises.proofs.Steps.{put-finds, join-finds, remove-finds}
 use Rattle.promises.proofs.OpenedLaws.{sorted-in-pages}
@@ -294,7 +296,14 @@ difference-is-exact s u t w j k unshared room =
     difference-result s u room t j w k _
     (λ key. rw (opened-is-enough (s .list) (u .list) t w a b unshared) (find-lacking key (records t) (records w) (accepted-proper u w k .order)))
 
--- ---- check, lookup, list
+-- ---- slash, check, lookup, list
+pub slash-replies : SlashReplies
+slash-replies k =
+    record {
+      refuses = λ e. record { answer = ap said (slash-none (k .list) e); outputs = tt };
+      passes = λ f. let w = slash-stands (k .list) (lawful-passes (lawful (k .list)) f) in (w .0, ap said (w .1), w .2);
+    }
+
 pub check-replies : CheckReplies
 unfolding checkAnswer checkVerdict
 check-replies s = record { refuses = λ r j. record { answer = rw j; outputs = tt }; accepts = λ t j. rw j }

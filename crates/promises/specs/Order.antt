@@ -9,7 +9,7 @@ use lib.ListN.{length, take, drop}
 use Rattle.answer.specs.Answer.{numberOf, refusedWith, doneWith}
 use Rattle.answer.specs.declared.Refusal.{Refusal}
 use Rattle.fips180.specs.Hash.{zeros}
-use Rattle.key.specs.Key.{lawful, less}
+use Rattle.key.specs.Key.{lawful, SlashAfter, less}
 use Rattle.tree.specs.Record.{Record, records}
 use Rattle.tree.specs.Table.{SpeltTree, tableOf}
 use Rattle.tree.specs.Judge.{equal, rising, refused, accepted, judge}
@@ -61,6 +61,12 @@ pub record ResultFinds (reply : Reply) (room : ℕ) (others : List ℕ) (finds :
   pub last : Check reply 5 (4096 < length result) (Measured reply room others result)
 
 -- ---- the calls
+-- Slash: 7 where the key breaks the key rule. Otherwise it answers the number of bytes before the slash.
+abbrev pub SlashOrder : List ℕ → Reply → Type 0
+SlashOrder k reply =
+    Check reply 7 (lawful k ≡ false)
+    ((n : ℕ) × (reply .answer ≡ doneWith (n ∷ [])) × SlashAfter k n)
+
 -- Check answers the record count.
 abbrev pub CheckOrder : List ℕ → Reply → Type 0
 CheckOrder s reply = Judged s reply (λ t. reply .answer ≡ doneWith (length (records t) ∷ []))

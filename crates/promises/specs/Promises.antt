@@ -17,8 +17,8 @@ use Rattle.promises.specs.Pages.{pagesOf, known, openedPages, linkedPage
 use Rattle.promises.specs.Outcome.{wrote, mergeOutcome}
 use Rattle.promises.specs.Difference.{differenceOutcome, differenceAnswer}
 use Rattle.promises.specs.Register.{RegisterOf}
-use Rattle.promises.specs.Reply.{checkReply, lookupReply, listReply, atOrAfterReply, beforeReply, runReply, putReply, joinReply, removeReply, mergeReply, differenceReply}
-use Rattle.promises.specs.Order.{ResultFinds, CheckOrder, LookupOrder, ListOrder, AtOrAfterOrder, BeforeOrder, RunOrder, PutOrder, JoinOrder, RemoveOrder, MergeOrder, DifferenceOrder}
+use Rattle.promises.specs.Reply.{slashReply, checkReply, lookupReply, listReply, atOrAfterReply, beforeReply, runReply, putReply, joinReply, removeReply, mergeReply, differenceReply}
+use Rattle.promises.specs.Order.{ResultFinds, SlashOrder, CheckOrder, LookupOrder, ListOrder, AtOrAfterOrder, BeforeOrder, RunOrder, PutOrder, JoinOrder, RemoveOrder, MergeOrder, DifferenceOrder}
 use Rattle.promises.specs.Plain.{Call, mapAnswers, mapSet, libraryAnswers, held, emptyRegister, putsOf}
 
 -- Demand 2. The table of a set that fits is accepted as that set's register, and a register that is accepted is the table of a set that fits.
@@ -27,6 +27,10 @@ ReadsWhatItWrites = (rs : List Record) → fits rs ≡ true → RegisterOf (tabl
 
 abbrev pub ReadsNothingElse : Type 0
 ReadsNothingElse = (s : ByteString) (rs : List Record) → RegisterOf (s .list) rs → (fits rs ≡ true) × (s .list ≡ tableOf rs)
+
+-- The key check answers 7 exactly where the key rule is broken, and otherwise where the slash stands.
+abbrev pub SlashReplies : Type 0
+SlashReplies = (k : ByteString) → SlashOrder (k .list) (slashReply (k .list))
 
 -- The calls do what they do to a sorted map, and are refused in the order of checks: when each number is given, and what is answered and
 -- written otherwise.

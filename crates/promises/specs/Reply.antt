@@ -2,6 +2,7 @@
 use Prim.Native.Nat.{ℕ}
 use mathlib.Core.List.{List, [], _∷_}
 use Rattle.answer.specs.Answer.{Said, said, saidOfDifference}
+use Rattle.key.specs.Key.{slashAnswer}
 use Rattle.promises.specs.Outcome.{checkAnswer, lookupAnswer, Listed, listOutcome, listAnswer, listKey, listValue, Outcome, putOutcome, joinOutcome, removeOutcome, mergeOutcome, answerOf, outputOf}
 use Rattle.promises.specs.Range.{atOrAfterOutcome, beforeOutcome, runOutcome}
 use Rattle.promises.specs.Difference.{differenceOutcome, differenceAnswer, differenceOutput}
@@ -17,6 +18,9 @@ pub record Reply : Type 0 where
   pub outputs : List Output
 
 -- The reply of each call; the contracts state the same answers and outputs.
+abbrev pub slashReply : List ℕ → Reply
+slashReply k = record { answer = said (slashAnswer k); outputs = [] }
+
 abbrev pub checkReply : List ℕ → Reply
 checkReply s = record { answer = said (checkAnswer s); outputs = [] }
 

@@ -1,16 +1,17 @@
 -- The answer of a lookup, by cases of the verdict, the key rule and the search.
 use Prim.Native.Nat.{ℕ, _+_, _^_, _≤_, _<_}
 use mathlib.Core.Path.{_≡_, sym, ap, subst, _∙_}
-use mathlib.Core.Bool.{Bool, true, false, not}
 use mathlib.Core.Option.{none, some}
 use mathlib.Core.List.{List, [], _∷_, map}
 use native.Mathlib.Omega.{arith}
 use lib.ListN.{length}
 use Rattle.answer.specs.declared.Refusal.{Refusal}
-use Rattle.answer.specs.declared.Refusal.the-variants.{UnlawfulKey, KeyAbsent}
+use Rattle.answer.specs.declared.Refusal.the-variants.{KeyAbsent}
+use Rattle.answer.specs.declared.Answer.{Answer}
 use Rattle.answer.specs.declared.Answer.the-variants.{Done, Refused}
 use Rattle.fips180.specs.Bytes.{Bytes}
-use Rattle.key.specs.Key.{lawful, less}
+use Rattle.key.specs.Key.{slashAnswer, less}
+use Rattle.key.proofs.SlashLaws.{slash-done, slash-refused}
 use Rattle.page.proofs.Tools.{cond-inv}
 use Rattle.tree.specs.Record.{Record, records}
 use Rattle.tree.specs.Table.{SpeltTree}
@@ -29,7 +30,6 @@ use Rattle.promises.specs.Outcome.{placeOf, lookupAnswer, lookupVerdict, answer
 use Rattle.row.specs.Search.{placeFound, SearchSays}
 use Rattle.row.specs.declared.search.Searched.{Searched}
 use Rattle.row.specs.declared.search.Searched.the-variants.{At, Absent}
-use Rattle.choice.proofs.Choosing.{not-right, not-wrong}
 
 -- ---- every value of an accepted register stands within it
 values-within : (s : List ℕ) (xs : List Slot) → All (SlotAt s) xs → All (λ p. p + 32 ≤ length s) (map (λ x. x .value) xs)
@@ -66,9 +66,9 @@ module _ (s index : List ℕ) (m : Register) (w : RegisterSays s m index) where
     pub count-within : Bytes s → count ≤ most
     count-within b = omega (arith, given .size, accept.accepted-table s b (given .tree) (given .judged) .fit .count)
 
-    pub answer-unlawful : (k : List ℕ) (ok : Bool) → ok ≡ lawful k → not ok ≡ true → Refused UnlawfulKey ≡ lookupAnswer s k
+    pub answer-unlawful : (k : List ℕ) (x : Answer) → x ≡ slashAnswer k → (r : Refusal) → x ≡ Refused r → Refused r ≡ lookupAnswer s k
     unfolding lookupAnswer lookupVerdict
-    answer-unlawful k ok e h = rw (given .judged, ← e, not-right ok h)
+    answer-unlawful k x e r p = let u = slash-refused k r (sym e ∙ p) in rw (given .judged, u .0, u .1)
 
     module _ (k : List ℕ) (r : Searched) (v : SearchSays s index count k r) where
       searched : placeFound r ≡ placeOf k (records (given .tree)) (places 0 (given .tree))
@@ -84,10 +84,10 @@ module _ (s index : List ℕ) (m : Register) (w : RegisterSays s m index) where
           let found : placeOf k (records t) (places 0 t) ≡ some place = sym searched ∙ ap placeFound p in
           omega (arith, place-among (λ i. i + 32 ≤ length s) k (records t) (places 0 t) place within found, ap length (a .written), a .fit .size)
 
-      module _ (ok : Bool) (e : ok ≡ lawful k) (h : not ok ≡ false) where
+      module _ (x : Answer) (e : x ≡ slashAnswer k) (n : ℕ) (o : x ≡ Done n) where
         answer-place : answerPlace (placeFound r) ≡ lookupAnswer s k
         unfolding lookupAnswer lookupVerdict
-        answer-place = rw (given .judged, ← e, not-wrong ok h) (ap answerPlace searched)
+        answer-place = rw (given .judged, slash-done k n (sym e ∙ o)) (ap answerPlace searched)
 
         pub answer-found : (position place : ℕ) → r ≡ At position place → Done place ≡ lookupAnswer s k
         unfolding answerPlace

@@ -1,7 +1,7 @@
 -- The writing calls: from what their parts say to the outcome.
 use Prim.Native.Nat.{ℕ, _+_, _-_, _^_, _≤_, _<_}
 use mathlib.Core.Path.{_≡_, refl, sym, ap, subst, _∙_}
-use mathlib.Core.Bool.{Bool, true, false, not}
+use mathlib.Core.Bool.{Bool, true, false}
 use mathlib.Core.Option.{none}
 use mathlib.Core.List.{List, [], _∷_, _++_, map, map-append}
 use native.Mathlib.Numerals.{add-one}
@@ -40,7 +40,7 @@ use Rattle.row.specs.declared.search.Searched.{Searched}
 use Rattle.row.specs.declared.search.Searched.the-variants.{At, Absent}
 use Rattle.promises.proofs.MapLaws.{Sorted, rising-sorted}
 use Rattle.choice.proofs.Weaving.{weave-merge, remove-at, find-at}
-use Rattle.choice.proofs.Choosing.{all-first, first-at, all-drop, records-slice, records-front, not-right, not-wrong}
+use Rattle.choice.proofs.Choosing.{all-first, first-at, all-drop, records-slice, records-front}
 use Rattle.register.proofs.Answering.{none≢some}
 use Rattle.register.proofs.Verdicts.{accepted-index, accepted-few}
 use Rattle.register.proofs.Writing.{stopped-answer, stopped-output, written-many, written-answer, written-output, set-written, remove-absent, remove-written, merge-written}
@@ -98,12 +98,6 @@ accepting s index x says e small size =
     let bytes = bytes-of s small in
     let given = accepted-index s index x says e in
     record { bytes = bytes; given = given; fits = omega (arith, accepted-few bytes given) }
-
-pub lawful-yes : (k : List ℕ) (ok : Bool) → ok ≡ lawful k → not ok ≡ false → lawful k ≡ true
-lawful-yes k ok e h = sym e ∙ not-wrong ok h
-
-pub lawful-no : (k : List ℕ) (ok : Bool) → ok ≡ lawful k → not ok ≡ true → lawful k ≡ false
-lawful-no k ok e h = sym e ∙ not-right ok h
 
 module _ {s index : List ℕ} {count : ℕ} (a : Accepting s index count) where
   abbrev pub t : SpeltTree

@@ -9,11 +9,13 @@ use lib.ListN.{length, take, drop, length-take, length-drop}
 use lib.Seq.{take-all, getD-take, getD-drop}
 use borrow.Author.Tests.{le-leb}
 use borrow.Table.Steps.{cases}
+use Rattle.answer.specs.declared.Answer.the-variants.{Refused}
 use Rattle.answer.specs.declared.Refusal.{Refusal}
-use Rattle.answer.specs.declared.Refusal.the-variants.{UnlawfulKey, KeyAbsent, FirstAfterLast}
-use Rattle.key.specs.Key.{lawful, less, order}
+use Rattle.answer.specs.declared.Refusal.the-variants.{KeyAbsent, FirstAfterLast}
+use Rattle.key.specs.Key.{lawful, slashAnswer, less, order}
 use Rattle.key.specs.declared.order.Order.{Order}
 use Rattle.key.specs.declared.order.Order.the-variants.{Less, Equal, Greater}
+use Rattle.key.proofs.SlashLaws.{slash-refused}
 use Rattle.key.proofs.Laws.{order-less, order-equal, order-greater, less-asymmetric, less-same}
 use Rattle.tree.specs.Record.{Record, records}
 use Rattle.tree.specs.Table.{SpeltTree}
@@ -41,9 +43,9 @@ module _ (b : Bool) (s k : List ℕ) (room : ℕ) where
   unfolding besideOutcome atOrAfterOutcome beforeOutcome besideKey
   beside-refused e = cases b (λ h. rw (h, e)) (λ h. rw (h, e))
 
-  pub beside-unlawful : (u : SpeltTree) → judge s ≡ accepted u → lawful k ≡ false → besideOutcome b s k room ≡ unlisted UnlawfulKey
+  pub beside-unlawful : (u : SpeltTree) → judge s ≡ accepted u → {r : Refusal} → slashAnswer k ≡ Refused r → besideOutcome b s k room ≡ unlisted r
   unfolding besideOutcome atOrAfterOutcome beforeOutcome besideKey
-  beside-unlawful u e l = cases b (λ h. rw (h, e, l)) (λ h. rw (h, e, l))
+  beside-unlawful u e q = let w = slash-refused k _ q in cases b (λ h. rw (h, e, w .0, w .1)) (λ h. rw (h, e, w .0, w .1))
 
 module _ {s index : List ℕ} {count : ℕ} (a : AcceptedIndex s index count) (k : List ℕ) (l : lawful k ≡ true) (room : ℕ) where
   abbrev rs : List Record
@@ -84,14 +86,14 @@ module _ (s first last : List ℕ) (room : ℕ) where
   run-refused e = rw e
 
   module _ (u : SpeltTree) (e : judge s ≡ accepted u) where
-    pub run-first-unlawful : lawful first ≡ false → runOutcome s first last room ≡ stopped UnlawfulKey
+    pub run-first-unlawful : {r : Refusal} → slashAnswer first ≡ Refused r → runOutcome s first last room ≡ stopped r
     unfolding runOutcome runVerdict runTests due settle
-    run-first-unlawful l = rw (e, l)
+    run-first-unlawful q = let w = slash-refused first _ q in rw (e, w .0, w .1)
 
     module _ (l : lawful first ≡ true) where
-      pub run-last-unlawful : lawful last ≡ false → runOutcome s first last room ≡ stopped UnlawfulKey
+      pub run-last-unlawful : {r : Refusal} → slashAnswer last ≡ Refused r → runOutcome s first last room ≡ stopped r
       unfolding runOutcome runVerdict runTests due settle
-      run-last-unlawful g = rw (e, l, g)
+      run-last-unlawful q = let w = slash-refused last _ q in rw (e, l, w .0, w .1)
 
       module _ (g : lawful last ≡ true) where
         pub run-crossed : less last first ≡ true → runOutcome s first last room ≡ stopped FirstAfterLast

@@ -9,12 +9,13 @@ use lib.Dec.{leb}
 use borrow.Author.Tests.{le-leb, lt-leb, eq-eqb, ne-eqb}
 use borrow.Table.Steps.{cases}
 use Rattle.answer.specs.declared.Refusal.{Refusal}
-use Rattle.answer.specs.declared.Refusal.the-variants.{TooManyRecords, UnlawfulKey, ValueLength, KeyAbsent}
+use Rattle.answer.specs.declared.Refusal.the-variants.{TooManyRecords, ValueLength, KeyAbsent}
 use Rattle.answer.specs.declared.Answer.{Answer}
 use Rattle.answer.specs.declared.Answer.the-variants.{Refused}
 use Rattle.fips180.specs.Hash.{zeros}
 use Rattle.sha256.specs.Digest.{longest}
-use Rattle.key.specs.Key.{lawful}
+use Rattle.key.specs.Key.{lawful, slashAnswer}
+use Rattle.key.proofs.SlashLaws.{slash-refused}
 use Rattle.page.specs.Page.{isValue}
 use Rattle.tree.specs.Record.{Record, records}
 use Rattle.tree.specs.Table.{SpeltTree, tableOf}
@@ -62,9 +63,9 @@ module _ (g : Bool) (s k v : List ℕ) (room : ℕ) where
   set-refused r e = cases g (λ h. rw (h, e)) (λ h. rw (h, e))
 
   module _ (t : SpeltTree) (e : judge s ≡ accepted t) where
-    pub set-unlawful : lawful k ≡ false → setOutcome g s k v room ≡ stopped UnlawfulKey
+    pub set-unlawful : {r : Refusal} → slashAnswer k ≡ Refused r → setOutcome g s k v room ≡ stopped r
     unfolding setOutcome putOutcome joinOutcome onFirst putPlan joinPlan carryOut due settle
-    set-unlawful l = cases g (λ h. rw (h, e, l)) (λ h. rw (h, e, l))
+    set-unlawful q = let w = slash-refused k _ q in cases g (λ h. rw (h, e, w .0, w .1)) (λ h. rw (h, e, w .0, w .1))
 
     module _ (l : lawful k ≡ true) where
       pub set-value-length : (length v ≡ 32 → ⊥) → setOutcome g s k v room ≡ stopped ValueLength
@@ -83,9 +84,9 @@ module _ (s k : List ℕ) (room : ℕ) where
   remove-refused r e = rw e
 
   module _ (t : SpeltTree) (e : judge s ≡ accepted t) where
-    pub remove-unlawful : lawful k ≡ false → removeOutcome s k room ≡ stopped UnlawfulKey
+    pub remove-unlawful : {r : Refusal} → slashAnswer k ≡ Refused r → removeOutcome s k room ≡ stopped r
     unfolding removeOutcome onFirst removePlan carryOut due settle
-    remove-unlawful l = rw (e, l)
+    remove-unlawful q = let w = slash-refused k _ q in rw (e, w .0, w .1)
 
     module _ (l : lawful k ≡ true) where
       pub remove-absent : find k (records t) ≡ none → removeOutcome s k room ≡ stopped KeyAbsent

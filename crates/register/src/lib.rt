@@ -20,7 +20,7 @@ use index::Register;
 use index::judge;
 use key::order::Order;
 use key::order::compare;
-use key::rule::is_lawful;
+use key::slash;
 use row::bytes::value_at;
 use row::search::Searched;
 use row::search::count_below;
@@ -55,8 +55,8 @@ pub fn lookup(register: &[u8], key: &[u8]) -> Answer
     let mut index = [0u64; 4096];
     match judge(register, &mut index) {
         Register::Accepted(count) => {
-            if !is_lawful(key) {
-                return Answer::Refused(Refusal::UnlawfulKey);
+            if let Answer::Refused(refusal) = slash(key) {
+                return Answer::Refused(refusal);
             }
             match search(register, &index, count, key) {
                 Searched::At(_, place) => Answer::Done(place as u32),
@@ -125,11 +125,11 @@ pub fn run(register: &[u8], first: &[u8], last: &[u8], out: &mut [u8]) -> Answer
     let mut index = [0u64; 4096];
     match judge(register, &mut index) {
         Register::Accepted(count) => {
-            if !is_lawful(first) {
-                return refuse(out, Refusal::UnlawfulKey);
+            if let Answer::Refused(refusal) = slash(first) {
+                return refuse(out, refusal);
             }
-            if !is_lawful(last) {
-                return refuse(out, Refusal::UnlawfulKey);
+            if let Answer::Refused(refusal) = slash(last) {
+                return refuse(out, refusal);
             }
             if is_less(last, first) {
                 return refuse(out, Refusal::FirstAfterLast);
@@ -167,8 +167,8 @@ fn set_value(register: &[u8], key: &[u8], value: &[u8], greater: bool, out: &mut
     let mut index = [0u64; 4096];
     match judge(register, &mut index) {
         Register::Accepted(count) => {
-            if !is_lawful(key) {
-                return refuse(out, Refusal::UnlawfulKey);
+            if let Answer::Refused(refusal) = slash(key) {
+                return refuse(out, refusal);
             }
             if value.len() != 32 {
                 return refuse(out, Refusal::ValueLength);
@@ -191,8 +191,8 @@ pub fn remove(register: &[u8], key: &[u8], out: &mut [u8]) -> Answer
     let mut index = [0u64; 4096];
     match judge(register, &mut index) {
         Register::Accepted(count) => {
-            if !is_lawful(key) {
-                return refuse(out, Refusal::UnlawfulKey);
+            if let Answer::Refused(refusal) = slash(key) {
+                return refuse(out, refusal);
             }
             match search(register, &index, count, key) {
                 Searched::At(position, _) => {

@@ -4,7 +4,7 @@ use answer::Answer;
 use answer::Refusal;
 use index::Register;
 use index::judge;
-use key::rule::is_lawful;
+use key::slash;
 use row::bytes::value_at;
 use row::fetch::fetch_from;
 use row::search::count_below;
@@ -74,8 +74,8 @@ pub fn beside(
     let mut index = [0u64; 4096];
     match judge(register, &mut index) {
         Register::Accepted(count) => {
-            if !is_lawful(key) {
-                return refuse_record(out, value, Refusal::UnlawfulKey);
+            if let Answer::Refused(refusal) = slash(key) {
+                return refuse_record(out, value, refusal);
             }
             let below = count_below(register, &index, count, key);
             if after {

@@ -71,8 +71,18 @@ impl Subject {
             black_box(mijdegen::digest(black_box(page))).expect("a page is short");
             start = *end;
         }
+        self.hash_keys();
+    }
+
+    /// The library's own digest over each key, once each.
+    pub fn hash_keys(&self) {
+        self.for_each_key(|key| mijdegen::digest(key).expect("a key is short"));
+    }
+
+    /// Calls with each key.
+    pub fn for_each_key<T>(&self, call: impl Fn(&[u8]) -> T) {
         for key in self.set.keys() {
-            black_box(mijdegen::digest(black_box(key))).expect("a key is short");
+            black_box(call(black_box(key)));
         }
     }
 }

@@ -1,5 +1,6 @@
 //! The key rule and the layer of a key.
 
+use crate::number::UNLAWFUL_KEY;
 use crate::sha256;
 
 /// The length of the longest lawful key.
@@ -9,17 +10,28 @@ pub const LONGEST_KEY: usize = 256;
 /// byte on each side of it; the other bytes are letters, digits, `.`, `-`, `_`, `:` and `~`. The
 /// part after the slash is neither `.` nor `..`.
 pub fn lawful(key: &[u8]) -> bool {
+    collection(key).is_some()
+}
+
+/// Gives the number of bytes before the slash of a lawful key.
+pub fn slash(key: &[u8]) -> Result<usize, u8> {
+    let collection = collection(key).ok_or(UNLAWFUL_KEY)?;
+    Ok(collection.len())
+}
+
+/// Gives the part of a lawful key before the slash.
+fn collection(key: &[u8]) -> Option<&[u8]> {
     if key.len() < 3 || key.len() > LONGEST_KEY {
-        return false;
+        return None;
     }
     let mut sides = key.split(|byte| *byte == b'/');
     let (Some(before), Some(after), None) = (sides.next(), sides.next(), sides.next()) else {
-        return false;
+        return None;
     };
     let sides_hold = [before, after]
         .iter()
         .all(|side| !side.is_empty() && side.iter().all(|byte| is_plain(*byte)));
-    sides_hold && after != b"." && after != b".."
+    (sides_hold && after != b"." && after != b"..").then_some(before)
 }
 
 /// Says whether the byte may stand beside the slash in a key.
@@ -49,27 +61,29 @@ fn leading_zero_bits(digest: &[u8; 32]) -> u32 {
 
 #[cfg(test)]
 mod tests {
-    use super::{lawful, layer, leading_zero_bits};
+    use super::{lawful, layer, leading_zero_bits, slash, LONGEST_KEY};
 
+    /// Keys with the number of bytes before their slash.
     #[test]
     fn lawful_keys() {
-        let keys: [&[u8]; 13] = [
-            b"a/b",
-            b"a/b1",
-            b"a/...",
-            b"./a",
-            b"../a",
-            b"a/.b",
-            b"a/..b",
-            b"a/b.",
-            b"-/_",
-            b":/~",
-            b"com.example.record/3jqfcqzm3fo2j",
-            b"AZaz09.-_:~/~:_-.90zaZA",
-            &[&[b'a'; 200][..], b"/", &[b'b'; 55]].concat(),
+        let keys: [(&[u8], usize); 13] = [
+            (b"a/b", 1),
+            (b"a/b1", 1),
+            (b"a/...", 1),
+            (b"./a", 1),
+            (b"../a", 2),
+            (b"a/.b", 1),
+            (b"a/..b", 1),
+            (b"a/b.", 1),
+            (b"-/_", 1),
+            (b":/~", 1),
+            (b"com.example.record/3jqfcqzm3fo2j", 18),
+            (b"AZaz09.-_:~/~:_-.90zaZA", 11),
+            (&[&[b'a'; 200][..], b"/", &[b'b'; 55]].concat(), 200),
         ];
-        for key in keys {
+        for (key, before) in keys {
             assert!(lawful(key), "{key:?}");
+            assert_eq!(slash(key), Ok(before), "{key:?}");
         }
     }
 
@@ -98,6 +112,24 @@ mod tests {
         ];
         for key in keys {
             assert!(!lawful(key), "{key:?}");
+            assert_eq!(slash(key), Err(7), "{key:?}");
+        }
+    }
+
+    /// The slash at each place of keys of each length, and of keys that are too short or too long.
+    #[test]
+    fn each_place_of_the_slash() {
+        for length in 1..=LONGEST_KEY + 2 {
+            for place in 0..length {
+                let mut key = vec![b'a'; length];
+                key[place] = b'/';
+                let has_sides = place > 0 && place + 1 < length;
+                let expected = match has_sides && length <= LONGEST_KEY {
+                    true => Ok(place),
+                    false => Err(7),
+                };
+                assert_eq!(slash(&key), expected, "{place} of {length}");
+            }
         }
     }
 

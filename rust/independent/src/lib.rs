@@ -20,7 +20,7 @@ pub use calls::{
     at_or_after, before, check, difference, join, join_in, list, lookup, merge, merge_in, put,
     put_in, remove, remove_from, result_table, run, run_of, set_of,
 };
-pub use key::{lawful, layer, LONGEST_KEY};
+pub use key::{lawful, layer, slash, LONGEST_KEY};
 pub use sha256::sha256;
 pub use table::{pages, table, tree_of};
 

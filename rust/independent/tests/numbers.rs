@@ -2,7 +2,7 @@
 
 use independent::{
     at_or_after, before, check, difference, join, list, lookup, merge, put, remove, run, sha256,
-    table, Set, Value, LONGEST, MOST_RECORDS,
+    slash, table, Set, Value, LONGEST, MOST_RECORDS,
 };
 
 const EMPTY: [u8; 7] = [0xa2, 0x61, 0x65, 0x80, 0x61, 0x6c, 0xf6];
@@ -129,6 +129,7 @@ fn number_7() {
     assert_eq!(check(&page(&[entry(0, b"a/")], None)), Err(7));
     assert_eq!(check(&page(&[entry(0, b"")], None)), Err(7));
     for key in [&b"ab"[..], b"a/", b"", &[b'/'; 300]] {
+        assert_eq!(slash(key), Err(7));
         assert_eq!(lookup(&EMPTY, key), Err(7));
         assert_eq!(put(&EMPTY, key, &[1; 31], &mut [0; 100]), Err(7));
         assert_eq!(join(&EMPTY, key, &[1; 31], &mut [0; 100]), Err(7));
@@ -147,11 +148,13 @@ fn number_7_by_length() {
     let mut out = [0; 400];
     let key = [&[b'a'; 100][..], b"/", &[b'b'; 155]].concat();
     assert_eq!(key.len(), 256);
+    assert_eq!(slash(&key), Ok(100));
     let length = put(&EMPTY, &key, &VALUE, &mut out).expect("the key is lawful");
     // 2 bytes more for the length of the remainder than where it is less than 24.
     assert_eq!(length, 64 + 252 + 2);
     assert_eq!(check(&out[..length]), Ok(1));
     let longer = [&key[..], b"b"].concat();
+    assert_eq!(slash(&longer), Err(7));
     assert_eq!(put(&EMPTY, &longer, &VALUE, &mut out), Err(7));
 }
 

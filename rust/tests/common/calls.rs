@@ -1,5 +1,5 @@
-//! The C functions with a watch on their buffers, and the comparison of check, lookup and list
-//! with the crate `independent`.
+//! The C functions with a watch on their buffers, and the comparison of slash, check, lookup and
+//! list with the crate `independent`.
 
 use super::forge::EMPTY;
 use super::hexadecimal;
@@ -7,13 +7,14 @@ use super::neighbours::{expect_record, Neighbour, NEIGHBOURS};
 use super::sets::{greatest_key, least_key};
 use super::writes::{expect_refusal, expect_table, Call};
 use independent::sha256;
-use mijdegen::{check, list, lookup, lookup_place, Listed, Refusal};
+use mijdegen::{check, list, lookup, lookup_place, slash, split, Listed, Refusal};
 
 extern "C" {
     // Outputs of 32 bytes are declared as pointers to bytes, since here they lie within longer
     // buffers.
     pub fn mijdegen_digest(input: *const u8, input_len: usize, out: *mut u8) -> u64;
     pub fn mijdegen_layer(input: *const u8, input_len: usize) -> u64;
+    pub fn mijdegen_slash(key: *const u8, key_len: usize) -> u64;
     pub fn mijdegen_check(reg: *const u8, reg_len: usize) -> u64;
     pub fn mijdegen_lookup(reg: *const u8, reg_len: usize, key: *const u8, key_len: usize) -> u64;
     pub fn mijdegen_list(
@@ -106,14 +107,32 @@ pub fn answer(result: Result<usize, u8>) -> u64 {
     }
 }
 
-/// Calls the C function and checks that the register stays as it was. Gives the answer.
-pub fn raw_check(register: &mut [u8]) -> u64 {
-    let before = register.to_vec();
+/// A C function that takes one input and has no output.
+type OfOneInput = unsafe extern "C" fn(*const u8, usize) -> u64;
+
+/// Calls the C function and checks that the input stays as it was. Gives the answer.
+fn raw_of_one(call: OfOneInput, input: &mut [u8]) -> u64 {
+    let before = input.to_vec();
     // The pointer comes from a mutable reference, so that a write would be seen below.
     // SAFETY: The pointer and the length are of one slice.
-    let answer = unsafe { mijdegen_check(register.as_mut_ptr().cast_const(), register.len()) };
-    assert!(register == before, "the register was changed");
+    let answer = unsafe { call(input.as_mut_ptr().cast_const(), input.len()) };
+    assert!(input == before, "the input was changed");
     answer
+}
+
+/// Gives the answer of the C function, after a check that the input stayed as it was.
+pub fn raw_layer(input: &mut [u8]) -> u64 {
+    raw_of_one(mijdegen_layer, input)
+}
+
+/// Gives the answer of the C function, after a check that the key stayed as it was.
+pub fn raw_slash(key: &mut [u8]) -> u64 {
+    raw_of_one(mijdegen_slash, key)
+}
+
+/// Gives the answer of the C function, after a check that the register stayed as it was.
+pub fn raw_check(register: &mut [u8]) -> u64 {
+    raw_of_one(mijdegen_check, register)
 }
 
 /// Calls the C function and checks that the inputs stay as they were. Gives the answer.
@@ -312,6 +331,32 @@ fn compare_accepted(register: &[u8], count: usize) {
     // Merged with itself it is written anew, and it lacks nothing of itself: no page is opened.
     expect_table(register, &Call::merge(register), register.len(), register);
     expect_table(register, &Call::difference(register), 7, &EMPTY);
+}
+
+/// Compares slash and split with the independent crate, by the safe and by the C functions. Gives
+/// the number of bytes before the slash.
+pub fn compare_slash(key: &[u8]) -> Result<usize, u8> {
+    let expected = independent::slash(key);
+    let found = slash(key).map_err(Refusal::number);
+    assert_eq!(found, expected, "slash of {}", shown(key));
+    let found = raw_slash(&mut key.to_vec());
+    assert_eq!(found, answer(expected), "C slash of {}", shown(key));
+
+    let parts = split(key).map_err(Refusal::number);
+    match expected {
+        Ok(place) => {
+            let is_slash = |place: &usize| key[*place] == b'/';
+            let places: Vec<usize> = (0..key.len()).filter(is_slash).collect();
+            assert_eq!(places, [place], "slashes of {}", shown(key));
+            let parts = parts.expect("the key is lawful");
+            assert_eq!([parts.collection, b"/", parts.name].concat(), key);
+            // They are parts of the lent key and no copies.
+            assert_eq!(parts.collection.as_ptr(), key.as_ptr());
+            assert_eq!(parts.name.as_ptr(), key[place + 1..].as_ptr());
+        }
+        Err(number) => assert_eq!(parts, Err(number)),
+    }
+    expected
 }
 
 /// Compares lookup with the independent crate, by the safe and by the C functions. Gives the

@@ -14,36 +14,42 @@ judge-requires c κs = search needs
 enum-known-count : tie.Need-enum-known-count
 enum-known-count c = search needs
 
-is-lawful-requires : tie.Need-is-lawful-requires
-is-lawful-requires c κs = search needs
+slash-requires : tie.Need-slash-requires
+slash-requires c κs = search needs
+
+enum-known-refusal : tie.Need-enum-known-refusal
+enum-known-refusal c = search needs
 
 returns : tie.Need-returns
 returns c = search (needs, answer-unlawful)
+
+enum-told : tie.Need-enum-told
+enum-told c = search needs
 
 slice-aggregate-search : tie.Need-slice-aggregate-search
 slice-aggregate-search c = search needs
 
 search-requires : tie.Need-search-requires
 search-requires c κs =
-    let bytes = bytes-of (c .before .before .before .before .before .before .before .before .before .before .before .args .register .now)
-    (λ i h. omega (arith, c .before .before .before .before .before .before .before .before .before .before .shared-slice-known .given i)) in
-    let few = count-within _ _ _ (c .before .before .before .before .before .before .before .judge .ensures) _ (c .before .before .before .before .count .given .1) bytes in
-    omega (arith, few, c .before .before .before .before .before .before .before .judge .kept)
+    let bytes = bytes-of (c .before .before .before .before .before .before .before .before .before .before .before .before .args .register .now)
+    (λ i h. omega (arith, c .before .before .before .before .before .before .before .before .before .before .before .shared-slice-known .given i)) in
+    let few = count-within _ _ _ (c .before .before .before .before .before .before .before .before .judge .ensures) _ (c .before .before .before .before .before .count .given .1) bytes in
+    omega (arith, few, c .before .before .before .before .before .before .before .before .judge .kept)
 
 enum-known-place : tie.Need-enum-known-place
 enum-known-place c = search needs
 
-cast-t18 : tie.Need-cast-t18
-cast-t18 c =
-    let bytes = bytes-of (c .before .before .before .before .before .before .before .before .before .before .before .before .before .before .before .args .register .now)
-    (λ i h. omega (arith, c .before .before .before .before .before .before .before .before .before .before .before .before .before .before .shared-slice-known .given i)) in
+cast-t17 : tie.Need-cast-t17
+cast-t17 c =
+    let bytes = bytes-of (c .before .before .before .before .before .before .before .before .before .before .before .before .before .before .before .before .args .register .now)
+    (λ i h. omega (arith, c .before .before .before .before .before .before .before .before .before .before .before .before .before .before .before .shared-slice-known .given i)) in
     search (needs, place-fits, bytes)
 
-enum-told : tie.Need-enum-told
-enum-told c = search needs
+enum-told-2 : tie.Need-enum-told-2
+enum-told-2 c = search needs
 
-enum-known-refusal : tie.Need-enum-known-refusal
-enum-known-refusal c = search needs
+enum-known-refusal-2 : tie.Need-enum-known-refusal-2
+enum-known-refusal-2 c = search needs
 
 returns-2 : tie.Need-returns-2
 returns-2 c = search (needs, answer-found)
@@ -61,14 +67,16 @@ lookup-spec =
     slice-aggregate-judge
     judge-requires
     enum-known-count
-    is-lawful-requires
+    slash-requires
+    enum-known-refusal
     returns
+    enum-told
     slice-aggregate-search
     search-requires
     enum-known-place
-    cast-t18
-    enum-told
-    enum-known-refusal
+    cast-t17
+    enum-told-2
+    enum-known-refusal-2
     returns-2
     returns-3
     returns-4)

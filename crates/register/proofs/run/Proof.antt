@@ -1,8 +1,10 @@
-use native.Mathlib.Omega.{arith}
-use Rattle.register.proofs.Verdicts.{judged-refused, accepted-few}
-use Rattle.register.proofs.Calls.{refuses, says-same, row-written, accepting, lawful-yes, lawful-no}
-use Rattle.register.proofs.Ranges.{run-refused, run-first-unlawful, run-last-unlawful, run-crossed, run-done, less-no, less-yes, run-rises, run-row}
 use borrow.Author.Needs.{needs}
+use mathlib.Core.Path.{sym, _∙_}
+use native.Mathlib.Omega.{arith}
+use Rattle.key.proofs.SlashLaws.{slash-done}
+use Rattle.register.proofs.Verdicts.{judged-refused, accepted-few}
+use Rattle.register.proofs.Calls.{refuses, says-same, row-written, accepting}
+use Rattle.register.proofs.Ranges.{run-refused, run-first-unlawful, run-last-unlawful, run-crossed, run-done, less-no, less-yes, run-rises, run-row}
 use Rattle.register.proofs.run.Statement.{statement}
 use Rattle.register.proofs.run.Tie as tie
 
@@ -15,8 +17,11 @@ judge-requires c κs = search needs
 enum-known-count : tie.Need-enum-known-count
 enum-known-count c = search needs
 
-is-lawful-requires : tie.Need-is-lawful-requires
-is-lawful-requires c κs = search needs
+slash-requires : tie.Need-slash-requires
+slash-requires c κs = search needs
+
+enum-known-refusal : tie.Need-enum-known-refusal
+enum-known-refusal c = search needs
 
 refuse-requires : tie.Need-refuse-requires
 refuse-requires c κs = search needs
@@ -26,11 +31,17 @@ same-length c = search needs
 
 returns : tie.Need-returns
 returns c =
-    let a = accepting _ _ _ (c .before .before .before .before .before .before .before .before .before .before .judge .ensures) (c .before .before .before .before .before .before .before .count .given .1) (λ i h. omega (arith, c .before .before .before .before .before .before .before .before .before .before .before .before .before .before .before .shared-slice-known .given i)) (c .before .before .before .before .before .before .before .before .before .before .judge .kept .1 .0) in
-    refuses _ _ _ (run-first-unlawful _ _ _ _ (a .given .tree) (a .given .judged) (lawful-no _ _ (c .before .before .before .before .before .is-lawful .ensures) (c .before .before .before .before .if1 .taken))) (c .before .before .refuse .ensures .0) (c .before .before .refuse .ensures .1)
+    let a = accepting _ _ _ (c .before .before .before .before .before .before .before .before .before .before .before .before .judge .ensures) (c .before .before .before .before .before .before .before .before .before .count .given .1) (λ i h. omega (arith, c .before .before .before .before .before .before .before .before .before .before .before .before .before .before .before .before .before .shared-slice-known .given i)) (c .before .before .before .before .before .before .before .before .before .before .before .before .judge .kept .1 .0) in
+    refuses _ _ _ (run-first-unlawful _ _ _ _ (a .given .tree) (a .given .judged) (sym (c .before .before .before .before .before .before .before .slash .ensures) ∙ c .before .before .before .before .before .refusal .given .1)) (c .before .before .refuse .ensures .0) (c .before .before .refuse .ensures .1)
 
-is-lawful-requires-2 : tie.Need-is-lawful-requires-2
-is-lawful-requires-2 c κs = search needs
+enum-told : tie.Need-enum-told
+enum-told c = search needs
+
+slash-requires-2 : tie.Need-slash-requires-2
+slash-requires-2 c κs = search needs
+
+enum-known-refusal-2 : tie.Need-enum-known-refusal-2
+enum-known-refusal-2 c = search needs
 
 refuse-requires-2 : tie.Need-refuse-requires-2
 refuse-requires-2 c κs = search needs
@@ -40,8 +51,11 @@ same-length-2 c = search needs
 
 returns-2 : tie.Need-returns-2
 returns-2 c =
-    let a = accepting _ _ _ (c .before .before .before .before .before .before .before .before .before .before .before .before .judge .ensures) (c .before .before .before .before .before .before .before .before .before .count .given .1) (λ i h. omega (arith, c .before .before .before .before .before .before .before .before .before .before .before .before .before .before .before .before .before .shared-slice-known .given i)) (c .before .before .before .before .before .before .before .before .before .before .before .before .judge .kept .1 .0) in
-    refuses _ _ _ (run-last-unlawful _ _ _ _ (a .given .tree) (a .given .judged) (lawful-yes _ _ (c .before .before .before .before .before .before .before .is-lawful .ensures) (c .before .before .before .before .before .before .if1 .left)) (lawful-no _ _ (c .before .before .before .before .before .is-lawful2 .ensures) (c .before .before .before .before .if2 .taken))) (c .before .before .refuse2 .ensures .0) (c .before .before .refuse2 .ensures .1)
+    let a = accepting _ _ _ (c .before .before .before .before .before .before .before .before .before .before .before .before .before .before .before .judge .ensures) (c .before .before .before .before .before .before .before .before .before .before .before .before .count .given .1) (λ i h. omega (arith, c .before .before .before .before .before .before .before .before .before .before .before .before .before .before .before .before .before .before .before .before .shared-slice-known .given i)) (c .before .before .before .before .before .before .before .before .before .before .before .before .before .before .before .judge .kept .1 .0) in
+    refuses _ _ _ (run-last-unlawful _ _ _ _ (a .given .tree) (a .given .judged) (slash-done _ _ (sym (c .before .before .before .before .before .before .before .before .before .before .slash .ensures) ∙ c .before .before .before .before .before .before .before .before .enum-told .given .1)) (sym (c .before .before .before .before .before .before .before .slash2 .ensures) ∙ c .before .before .before .before .before .refusal2 .given .1)) (c .before .before .refuse2 .ensures .0) (c .before .before .refuse2 .ensures .1)
+
+enum-told-2 : tie.Need-enum-told-2
+enum-told-2 c = search needs
 
 is-less-requires : tie.Need-is-less-requires
 is-less-requires c κs = search needs
@@ -54,15 +68,15 @@ same-length-3 c = search needs
 
 returns-3 : tie.Need-returns-3
 returns-3 c =
-    let a = accepting _ _ _ (c .before .before .before .before .before .before .before .before .before .before .before .before .before .before .judge .ensures) (c .before .before .before .before .before .before .before .before .before .before .before .count .given .1) (λ i h. omega (arith, c .before .before .before .before .before .before .before .before .before .before .before .before .before .before .before .before .before .before .before .shared-slice-known .given i)) (c .before .before .before .before .before .before .before .before .before .before .before .before .before .before .judge .kept .1 .0) in
-    refuses _ _ _ (run-crossed _ _ _ _ (a .given .tree) (a .given .judged) (lawful-yes _ _ (c .before .before .before .before .before .before .before .before .before .is-lawful .ensures) (c .before .before .before .before .before .before .before .before .if1 .left)) (lawful-yes _ _ (c .before .before .before .before .before .before .before .is-lawful2 .ensures) (c .before .before .before .before .before .before .if2 .left)) (less-yes _ (c .before .before .before .before .before .is-less .ensures) (c .before .before .before .before .if3 .taken))) (c .before .before .refuse3 .ensures .0) (c .before .before .refuse3 .ensures .1)
+    let a = accepting _ _ _ (c .before .before .before .before .before .before .before .before .before .before .before .before .before .before .before .before .judge .ensures) (c .before .before .before .before .before .before .before .before .before .before .before .before .before .count .given .1) (λ i h. omega (arith, c .before .before .before .before .before .before .before .before .before .before .before .before .before .before .before .before .before .before .before .before .before .shared-slice-known .given i)) (c .before .before .before .before .before .before .before .before .before .before .before .before .before .before .before .before .judge .kept .1 .0) in
+    refuses _ _ _ (run-crossed _ _ _ _ (a .given .tree) (a .given .judged) (slash-done _ _ (sym (c .before .before .before .before .before .before .before .before .before .before .before .slash .ensures) ∙ c .before .before .before .before .before .before .before .before .before .enum-told .given .1)) (slash-done _ _ (sym (c .before .before .before .before .before .before .before .before .slash2 .ensures) ∙ c .before .before .before .before .before .before .enum-told2 .given .1)) (less-yes _ (c .before .before .before .before .before .is-less .ensures) (c .before .before .before .before .if1 .taken))) (c .before .before .refuse3 .ensures .0) (c .before .before .refuse3 .ensures .1)
 
 slice-aggregate-count-below : tie.Need-slice-aggregate-count-below
 slice-aggregate-count-below c = search needs
 
 count-below-requires : tie.Need-count-below-requires
 count-below-requires c κs =
-    let a = accepting _ _ _ (c .before .before .before .before .before .before .before .before .before .before .before .judge .ensures) (c .before .before .before .before .before .before .before .before .count .given .1) (λ i h. omega (arith, c .before .before .before .before .before .before .before .before .before .before .before .before .before .before .before .before .shared-slice-known .given i)) (c .before .before .before .before .before .before .before .before .before .before .before .judge .kept .1 .0) in
+    let a = accepting _ _ _ (c .before .before .before .before .before .before .before .before .before .before .before .before .before .judge .ensures) (c .before .before .before .before .before .before .before .before .before .before .count .given .1) (λ i h. omega (arith, c .before .before .before .before .before .before .before .before .before .before .before .before .before .before .before .before .before .before .shared-slice-known .given i)) (c .before .before .before .before .before .before .before .before .before .before .before .before .before .judge .kept .1 .0) in
     a .fits
 
 slice-aggregate-count-up-to : tie.Need-slice-aggregate-count-up-to
@@ -70,41 +84,41 @@ slice-aggregate-count-up-to c = search needs
 
 count-up-to-requires : tie.Need-count-up-to-requires
 count-up-to-requires c κs =
-    let a = accepting _ _ _ (c .before .before .before .before .before .before .before .before .before .before .before .before .before .judge .ensures) (c .before .before .before .before .before .before .before .before .before .before .count .given .1) (λ i h. omega (arith, c .before .before .before .before .before .before .before .before .before .before .before .before .before .before .before .before .before .before .shared-slice-known .given i)) (c .before .before .before .before .before .before .before .before .before .before .before .before .before .judge .kept .1 .0) in
+    let a = accepting _ _ _ (c .before .before .before .before .before .before .before .before .before .before .before .before .before .before .before .judge .ensures) (c .before .before .before .before .before .before .before .before .before .before .before .before .count .given .1) (λ i h. omega (arith, c .before .before .before .before .before .before .before .before .before .before .before .before .before .before .before .before .before .before .before .before .shared-slice-known .given i)) (c .before .before .before .before .before .before .before .before .before .before .before .before .before .before .before .judge .kept .1 .0) in
     a .fits
 
 mul-write-table : tie.Need-mul-write-table
 mul-write-table c =
-    let a = accepting _ _ _ (c .before .before .before .before .before .before .before .before .before .before .before .before .before .before .judge .ensures) (c .before .before .before .before .before .before .before .before .before .before .before .count .given .1) (λ i h. omega (arith, c .before .before .before .before .before .before .before .before .before .before .before .before .before .before .before .before .before .before .before .shared-slice-known .given i)) (c .before .before .before .before .before .before .before .before .before .before .before .before .before .before .judge .kept .1 .0) in
-    omega (arith, c .before .before .count-below .ensures .1, a .fits, c .before .before .before .before .before .before .before .before .before .before .before .before .before .before .judge .kept .1 .0)
+    let a = accepting _ _ _ (c .before .before .before .before .before .before .before .before .before .before .before .before .before .before .before .before .judge .ensures) (c .before .before .before .before .before .before .before .before .before .before .before .before .before .count .given .1) (λ i h. omega (arith, c .before .before .before .before .before .before .before .before .before .before .before .before .before .before .before .before .before .before .before .before .before .shared-slice-known .given i)) (c .before .before .before .before .before .before .before .before .before .before .before .before .before .before .before .before .judge .kept .1 .0) in
+    omega (arith, c .before .before .count-below .ensures .1, a .fits, c .before .before .before .before .before .before .before .before .before .before .before .before .before .before .before .before .judge .kept .1 .0)
 
 sub-write-table : tie.Need-sub-write-table
 sub-write-table c =
-    let a = accepting _ _ _ (c .before .before .before .before .before .before .before .before .before .before .before .before .before .before .judge .ensures) (c .before .before .before .before .before .before .before .before .before .before .before .count .given .1) (λ i h. omega (arith, c .before .before .before .before .before .before .before .before .before .before .before .before .before .before .before .before .before .before .before .shared-slice-known .given i)) (c .before .before .before .before .before .before .before .before .before .before .before .before .before .before .judge .kept .1 .0) in
-    run-rises a _ _ _ _ (c .before .before .count-below .ensures .0) (c .count-up-to .ensures .0) (less-no _ (c .before .before .before .before .before .is-less .ensures) (c .before .before .before .before .if3 .left)) (c .count-up-to .ensures .1)
+    let a = accepting _ _ _ (c .before .before .before .before .before .before .before .before .before .before .before .before .before .before .before .before .judge .ensures) (c .before .before .before .before .before .before .before .before .before .before .before .before .before .count .given .1) (λ i h. omega (arith, c .before .before .before .before .before .before .before .before .before .before .before .before .before .before .before .before .before .before .before .before .before .shared-slice-known .given i)) (c .before .before .before .before .before .before .before .before .before .before .before .before .before .before .before .before .judge .kept .1 .0) in
+    run-rises a _ _ _ _ (c .before .before .count-below .ensures .0) (c .count-up-to .ensures .0) (less-no _ (c .before .before .before .before .before .is-less .ensures) (c .before .before .before .before .if1 .left)) (c .count-up-to .ensures .1)
 
 part-write-table-start : tie.Need-part-write-table-start
 part-write-table-start c =
-    let a = accepting _ _ _ (c .before .before .before .before .before .before .before .before .before .before .before .before .before .before .before .judge .ensures) (c .before .before .before .before .before .before .before .before .before .before .before .before .count .given .1) (λ i h. omega (arith, c .before .before .before .before .before .before .before .before .before .before .before .before .before .before .before .before .before .before .before .before .shared-slice-known .given i)) (c .before .before .before .before .before .before .before .before .before .before .before .before .before .before .before .judge .kept .1 .0) in
-    run-rises a _ _ _ _ (c .before .before .before .count-below .ensures .0) (c .before .count-up-to .ensures .0) (less-no _ (c .before .before .before .before .before .before .is-less .ensures) (c .before .before .before .before .before .if3 .left)) (c .before .count-up-to .ensures .1)
+    let a = accepting _ _ _ (c .before .before .before .before .before .before .before .before .before .before .before .before .before .before .before .before .before .judge .ensures) (c .before .before .before .before .before .before .before .before .before .before .before .before .before .before .count .given .1) (λ i h. omega (arith, c .before .before .before .before .before .before .before .before .before .before .before .before .before .before .before .before .before .before .before .before .before .before .shared-slice-known .given i)) (c .before .before .before .before .before .before .before .before .before .before .before .before .before .before .before .before .before .judge .kept .1 .0) in
+    run-rises a _ _ _ _ (c .before .before .before .count-below .ensures .0) (c .before .count-up-to .ensures .0) (less-no _ (c .before .before .before .before .before .before .is-less .ensures) (c .before .before .before .before .before .if1 .left)) (c .before .count-up-to .ensures .1)
 
 part-write-table-end : tie.Need-part-write-table-end
 part-write-table-end c =
-    let a = accepting _ _ _ (c .before .before .before .before .before .before .before .before .before .before .before .before .before .before .before .judge .ensures) (c .before .before .before .before .before .before .before .before .before .before .before .before .count .given .1) (λ i h. omega (arith, c .before .before .before .before .before .before .before .before .before .before .before .before .before .before .before .before .before .before .before .before .shared-slice-known .given i)) (c .before .before .before .before .before .before .before .before .before .before .before .before .before .before .before .judge .kept .1 .0) in
+    let a = accepting _ _ _ (c .before .before .before .before .before .before .before .before .before .before .before .before .before .before .before .before .before .judge .ensures) (c .before .before .before .before .before .before .before .before .before .before .before .before .before .before .count .given .1) (λ i h. omega (arith, c .before .before .before .before .before .before .before .before .before .before .before .before .before .before .before .before .before .before .before .before .before .before .shared-slice-known .given i)) (c .before .before .before .before .before .before .before .before .before .before .before .before .before .before .before .before .before .judge .kept .1 .0) in
     omega (arith, c .before .count-up-to .ensures .1, a .fits)
 
 sub-write-table-2 : tie.Need-sub-write-table-2
 sub-write-table-2 c =
-    let a = accepting _ _ _ (c .before .before .before .before .before .before .before .before .before .before .before .before .before .before .before .before .judge .ensures) (c .before .before .before .before .before .before .before .before .before .before .before .before .before .count .given .1) (λ i h. omega (arith, c .before .before .before .before .before .before .before .before .before .before .before .before .before .before .before .before .before .before .before .before .before .shared-slice-known .given i)) (c .before .before .before .before .before .before .before .before .before .before .before .before .before .before .before .before .judge .kept .1 .0) in
-    run-rises a _ _ _ _ (c .before .before .before .before .count-below .ensures .0) (c .before .before .count-up-to .ensures .0) (less-no _ (c .before .before .before .before .before .before .before .is-less .ensures) (c .before .before .before .before .before .before .if3 .left)) (c .before .before .count-up-to .ensures .1)
+    let a = accepting _ _ _ (c .before .before .before .before .before .before .before .before .before .before .before .before .before .before .before .before .before .before .judge .ensures) (c .before .before .before .before .before .before .before .before .before .before .before .before .before .before .before .count .given .1) (λ i h. omega (arith, c .before .before .before .before .before .before .before .before .before .before .before .before .before .before .before .before .before .before .before .before .before .before .before .shared-slice-known .given i)) (c .before .before .before .before .before .before .before .before .before .before .before .before .before .before .before .before .before .before .judge .kept .1 .0) in
+    run-rises a _ _ _ _ (c .before .before .before .before .count-below .ensures .0) (c .before .before .count-up-to .ensures .0) (less-no _ (c .before .before .before .before .before .before .before .is-less .ensures) (c .before .before .before .before .before .before .if1 .left)) (c .before .before .count-up-to .ensures .1)
 
 write-table-requires : tie.Need-write-table-requires
 write-table-requires c κs =
-    let a = accepting _ _ _ (c .before .before .before .before .before .before .before .before .before .before .before .before .before .before .before .before .before .judge .ensures) (c .before .before .before .before .before .before .before .before .before .before .before .before .before .before .count .given .1) (λ i h. omega (arith, c .before .before .before .before .before .before .before .before .before .before .before .before .before .before .before .before .before .before .before .before .before .before .shared-slice-known .given i)) (c .before .before .before .before .before .before .before .before .before .before .before .before .before .before .before .before .before .judge .kept .1 .0) in
-    run-row a _ _ _ _ (c .before .before .before .before .before .count-below .ensures .0) (c .before .before .before .count-up-to .ensures .0) (less-no _ (c .before .before .before .before .before .before .before .before .is-less .ensures) (c .before .before .before .before .before .before .before .if3 .left)) (c .before .before .before .count-up-to .ensures .1) .whole
+    let a = accepting _ _ _ (c .before .before .before .before .before .before .before .before .before .before .before .before .before .before .before .before .before .before .before .judge .ensures) (c .before .before .before .before .before .before .before .before .before .before .before .before .before .before .before .before .count .given .1) (λ i h. omega (arith, c .before .before .before .before .before .before .before .before .before .before .before .before .before .before .before .before .before .before .before .before .before .before .before .before .shared-slice-known .given i)) (c .before .before .before .before .before .before .before .before .before .before .before .before .before .before .before .before .before .before .before .judge .kept .1 .0) in
+    run-row a _ _ _ _ (c .before .before .before .before .before .count-below .ensures .0) (c .before .before .before .count-up-to .ensures .0) (less-no _ (c .before .before .before .before .before .before .before .before .is-less .ensures) (c .before .before .before .before .before .before .before .if1 .left)) (c .before .before .before .count-up-to .ensures .1) .whole
 
-enum-known-refusal : tie.Need-enum-known-refusal
-enum-known-refusal c = search needs
+enum-known-refusal-3 : tie.Need-enum-known-refusal-3
+enum-known-refusal-3 c = search needs
 
 refuse-requires-4 : tie.Need-refuse-requires-4
 refuse-requires-4 c κs = search needs
@@ -114,17 +128,18 @@ same-length-4 c = search needs
 
 returns-4 : tie.Need-returns-4
 returns-4 c =
-    let a = accepting _ _ _ (c .before .before .before .before .before .before .before .before .before .before .before .before .before .before .before .before .before .before .before .before .judge .ensures) (c .before .before .before .before .before .before .before .before .before .before .before .before .before .before .before .before .before .count .given .1) (λ i h. omega (arith, c .before .before .before .before .before .before .before .before .before .before .before .before .before .before .before .before .before .before .before .before .before .before .before .before .before .shared-slice-known .given i)) (c .before .before .before .before .before .before .before .before .before .before .before .before .before .before .before .before .before .before .before .before .judge .kept .1 .0) in
+    let a = accepting _ _ _ (c .before .before .before .before .before .before .before .before .before .before .before .before .before .before .before .before .before .before .before .before .before .before .judge .ensures) (c .before .before .before .before .before .before .before .before .before .before .before .before .before .before .before .before .before .before .before .count .given .1) (λ i h. omega (arith, c .before .before .before .before .before .before .before .before .before .before .before .before .before .before .before .before .before .before .before .before .before .before .before .before .before .before .before .shared-slice-known .given i)) (c .before .before .before .before .before .before .before .before .before .before .before .before .before .before .before .before .before .before .before .before .before .before .judge .kept .1 .0) in
     let r = c .before .before .write-table in
-    let row = run-row a _ _ _ _ (c .before .before .before .before .before .before .before .before .count-below .ensures .0) (c .before .before .before .before .before .before .count-up-to .ensures .0) (less-no _ (c .before .before .before .before .before .before .before .before .before .before .before .is-less .ensures) (c .before .before .before .before .before .before .before .before .before .before .if3 .left)) (c .before .before .before .before .before .before .count-up-to .ensures .1) in
+    let row = run-row a _ _ _ _ (c .before .before .before .before .before .before .before .before .count-below .ensures .0) (c .before .before .before .before .before .before .count-up-to .ensures .0) (less-no _ (c .before .before .before .before .before .before .before .before .before .before .before .is-less .ensures) (c .before .before .before .before .before .before .before .before .before .before .if1 .left)) (c .before .before .before .before .before .before .count-up-to .ensures .1) in
     let says = row-written row _ _ _ (r .ensures .0) (r .ensures .1) in
-    says-same _ _ _ (run-done a _ _ _ (lawful-yes _ _ (c .before .before .before .before .before .before .before .before .before .before .before .before .before .before .before .is-lawful .ensures) (c .before .before .before .before .before .before .before .before .before .before .before .before .before .before .if1 .left)) (lawful-yes _ _ (c .before .before .before .before .before .before .before .before .before .before .before .before .before .is-lawful2 .ensures) (c .before .before .before .before .before .before .before .before .before .before .before .before .if2 .left)) (less-no _ (c .before .before .before .before .before .before .before .before .before .before .before .is-less .ensures) (c .before .before .before .before .before .before .before .before .before .before .if3 .left))) (says .0) (says .1)
+    says-same _ _ _ (run-done a _ _ _ (slash-done _ _ (sym (c .before .before .before .before .before .before .before .before .before .before .before .before .before .before .before .before .before .slash .ensures) ∙ c .before .before .before .before .before .before .before .before .before .before .before .before .before .before .before .enum-told .given .1)) (slash-done _ _ (sym (c .before .before .before .before .before .before .before .before .before .before .before .before .before .before .slash2 .ensures) ∙ c .before .before .before .before .before .before .before .before .before .before .before .before .enum-told2 .given .1)) (less-no _ (c .before .before .before .before .before .before .before .before .before .before .before .is-less .ensures) (c .before .before .before .before .before .before .before .before .before .before .if1 .left))) (says .0) (says .1)
 
 same-length-5 : tie.Need-same-length-5
 same-length-5 c = search needs
 
 returns-5 : tie.Need-returns-5
-returns-5 c = refuses _ _ _ (run-refused _ _ _ _ (judged-refused _ _ _ (c .before .before .before .before .before .before .before .before .judge .ensures) (c .before .before .before .before .before .refusal .given .1))) (c .before .before .refuse4 .ensures .0) (c .before .before .refuse4 .ensures .1)
+returns-5 c =
+    refuses _ _ _ (run-refused _ _ _ _ (judged-refused _ _ _ (c .before .before .before .before .before .before .before .before .judge .ensures) (c .before .before .before .before .before .refusal3 .given .1))) (c .before .before .refuse4 .ensures .0) (c .before .before .refuse4 .ensures .1)
 
 pub run-spec : {M : Type 1} → statement M
 run-spec =
@@ -133,14 +148,18 @@ run-spec =
     slice-aggregate-judge
     judge-requires
     enum-known-count
-    is-lawful-requires
+    slash-requires
+    enum-known-refusal
     refuse-requires
     same-length
     returns
-    is-lawful-requires-2
+    enum-told
+    slash-requires-2
+    enum-known-refusal-2
     refuse-requires-2
     same-length-2
     returns-2
+    enum-told-2
     is-less-requires
     refuse-requires-3
     same-length-3
@@ -155,7 +174,7 @@ run-spec =
     part-write-table-end
     sub-write-table-2
     write-table-requires
-    enum-known-refusal
+    enum-known-refusal-3
     refuse-requires-4
     same-length-4
     returns-4

@@ -1,8 +1,10 @@
+use borrow.Author.Needs.{needs}
+use mathlib.Core.Path.{sym, _∙_}
 use native.Mathlib.Omega.{arith}
+use Rattle.key.proofs.SlashLaws.{slash-done}
 use Rattle.register.proofs.Verdicts.{accepted-index, judged-refused}
 use Rattle.register.proofs.Writing.{set-refused, set-unlawful, set-value-length}
-use Rattle.register.proofs.Calls.{refuses, says-same, accepting, lawful-yes, lawful-no, row-first, row-single, set-done}
-use borrow.Author.Needs.{needs}
+use Rattle.register.proofs.Calls.{refuses, says-same, accepting, row-first, row-single, set-done}
 use Rattle.register.proofs.set_value.Statement.{statement}
 use Rattle.register.proofs.set_value.Tie as tie
 
@@ -15,8 +17,11 @@ judge-requires c κs = search needs
 enum-known-count : tie.Need-enum-known-count
 enum-known-count c = search needs
 
-is-lawful-requires : tie.Need-is-lawful-requires
-is-lawful-requires c κs = search needs
+slash-requires : tie.Need-slash-requires
+slash-requires c κs = search needs
+
+enum-known-refusal : tie.Need-enum-known-refusal
+enum-known-refusal c = search needs
 
 refuse-requires : tie.Need-refuse-requires
 refuse-requires c κs = search needs
@@ -26,8 +31,11 @@ same-length c = search needs
 
 returns : tie.Need-returns
 returns c =
-    let a = accepted-index _ _ _ (c .before .before .before .before .before .before .before .before .before .before .judge .ensures) (c .before .before .before .before .before .before .before .count .given .1) in
-    refuses _ _ _ (set-unlawful _ _ _ _ _ (a .tree) (a .judged) (lawful-no _ _ (c .before .before .before .before .before .is-lawful .ensures) (c .before .before .before .before .if1 .taken))) (c .before .before .refuse .ensures .0) (c .before .before .refuse .ensures .1)
+    let a = accepted-index _ _ _ (c .before .before .before .before .before .before .before .before .before .before .before .before .judge .ensures) (c .before .before .before .before .before .before .before .before .before .count .given .1) in
+    refuses _ _ _ (set-unlawful _ _ _ _ _ (a .tree) (a .judged) (sym (c .before .before .before .before .before .before .before .slash .ensures) ∙ c .before .before .before .before .before .refusal .given .1)) (c .before .before .refuse .ensures .0) (c .before .before .refuse .ensures .1)
+
+enum-told : tie.Need-enum-told
+enum-told c = search needs
 
 refuse-requires-2 : tie.Need-refuse-requires-2
 refuse-requires-2 c κs = search needs
@@ -37,8 +45,8 @@ same-length-2 c = search needs
 
 returns-2 : tie.Need-returns-2
 returns-2 c =
-    let a = accepted-index _ _ _ (c .before .before .before .before .before .before .before .before .before .before .before .judge .ensures) (c .before .before .before .before .before .before .before .before .count .given .1) in
-    refuses _ _ _ (set-value-length _ _ _ _ _ (a .tree) (a .judged) (lawful-yes _ _ (c .before .before .before .before .before .before .is-lawful .ensures) (c .before .before .before .before .before .if1 .left)) (c .before .before .before .before .if2 .taken)) (c .before .before .refuse2 .ensures .0) (c .before .before .refuse2 .ensures .1)
+    let a = accepted-index _ _ _ (c .before .before .before .before .before .before .before .before .before .before .before .before .judge .ensures) (c .before .before .before .before .before .before .before .before .before .count .given .1) in
+    refuses _ _ _ (set-value-length _ _ _ _ _ (a .tree) (a .judged) (slash-done _ _ (sym (c .before .before .before .before .before .before .before .slash .ensures) ∙ c .before .before .before .before .before .enum-told .given .1)) (c .before .before .before .before .if1 .taken)) (c .before .before .refuse2 .ensures .0) (c .before .before .refuse2 .ensures .1)
 
 value-at-requires : tie.Need-value-at-requires
 value-at-requires c κs = search needs
@@ -48,7 +56,7 @@ slice-aggregate-single c = search needs
 
 single-requires : tie.Need-single-requires
 single-requires c κs =
-    ((lawful-yes _ _ (c .before .before .before .before .is-lawful .ensures) (c .before .before .before .if1 .left)), search needs)
+    ((slash-done _ _ (sym (c .before .before .before .before .before .slash .ensures) ∙ c .before .before .before .enum-told .given .1)), search needs)
 
 array-write-words : tie.Need-array-write-words
 array-write-words c = search needs
@@ -64,14 +72,14 @@ slice-aggregate-write-chosen-3 c = search needs
 
 write-chosen-requires : tie.Need-write-chosen-requires
 write-chosen-requires c κs =
-    let a = accepting _ _ _ (c .before .before .before .before .before .before .before .before .before .before .before .before .before .before .before .judge .ensures) (c .before .before .before .before .before .before .before .before .before .before .before .before .count .given .1) (λ i h. omega (arith, c .before .before .before .before .before .before .before .before .before .before .before .before .before .before .before .before .before .before .before .before .shared-slice-known .given i)) (c .before .before .before .before .before .before .before .before .before .before .before .before .before .before .before .judge .kept .1 .0) in
+    let a = accepting _ _ _ (c .before .before .before .before .before .before .before .before .before .before .before .before .before .before .before .before .judge .ensures) (c .before .before .before .before .before .before .before .before .before .before .before .before .before .count .given .1) (λ i h. omega (arith, c .before .before .before .before .before .before .before .before .before .before .before .before .before .before .before .before .before .before .before .before .before .shared-slice-known .given i)) (c .before .before .before .before .before .before .before .before .before .before .before .before .before .before .before .before .judge .kept .1 .0) in
     let w = c .before .before .before .before .before .single in (
       row-first a _ (omega (arith, w .kept)),
       row-single a (w .ensures) (omega (arith, w .kept)),
     )
 
-enum-known-refusal : tie.Need-enum-known-refusal
-enum-known-refusal c = search needs
+enum-known-refusal-2 : tie.Need-enum-known-refusal-2
+enum-known-refusal-2 c = search needs
 
 refuse-requires-3 : tie.Need-refuse-requires-3
 refuse-requires-3 c κs = search needs
@@ -81,18 +89,18 @@ same-length-3 c = search needs
 
 returns-3 : tie.Need-returns-3
 returns-3 c =
-    let a = accepting _ _ _ (c .before .before .before .before .before .before .before .before .before .before .before .before .before .before .before .before .before .before .judge .ensures) (c .before .before .before .before .before .before .before .before .before .before .before .before .before .before .before .count .given .1) (λ i h. omega (arith, c .before .before .before .before .before .before .before .before .before .before .before .before .before .before .before .before .before .before .before .before .before .before .before .shared-slice-known .given i)) (c .before .before .before .before .before .before .before .before .before .before .before .before .before .before .before .before .before .before .judge .kept .1 .0) in
+    let a = accepting _ _ _ (c .before .before .before .before .before .before .before .before .before .before .before .before .before .before .before .before .before .before .before .judge .ensures) (c .before .before .before .before .before .before .before .before .before .before .before .before .before .before .before .before .count .given .1) (λ i h. omega (arith, c .before .before .before .before .before .before .before .before .before .before .before .before .before .before .before .before .before .before .before .before .before .before .before .before .shared-slice-known .given i)) (c .before .before .before .before .before .before .before .before .before .before .before .before .before .before .before .before .before .before .before .judge .kept .1 .0) in
     let v = c .before .before .before .before .before .before .before .before .before .before .value-at in
     let w = c .before .before .before .before .before .before .before .before .single in
     let r = c .before .before .write-chosen in
-    says-same _ _ _ (set-done a (c .before .before .before .before .before .before .before .before .before .before .before .before .before .before .before .before .before .before .before .before .before .before .before .before .args .greater) _ _ _ (c .before .before .before .before .before .before .before .before .before .before .before .if2 .left) (v .ensures) _ _ (w .ensures) _ (lawful-yes _ _ (c .before .before .before .before .before .before .before .before .before .before .before .before .before .is-lawful .ensures) (c .before .before .before .before .before .before .before .before .before .before .before .before .if1 .left))) (r .ensures .0) (r .ensures .1)
+    says-same _ _ _ (set-done a (c .before .before .before .before .before .before .before .before .before .before .before .before .before .before .before .before .before .before .before .before .before .before .before .before .before .args .greater) _ _ _ (c .before .before .before .before .before .before .before .before .before .before .before .if1 .left) (v .ensures) _ _ (w .ensures) _ (slash-done _ _ (sym (c .before .before .before .before .before .before .before .before .before .before .before .before .before .before .slash .ensures) ∙ c .before .before .before .before .before .before .before .before .before .before .before .before .enum-told .given .1))) (r .ensures .0) (r .ensures .1)
 
 same-length-4 : tie.Need-same-length-4
 same-length-4 c = search needs
 
 returns-4 : tie.Need-returns-4
 returns-4 c =
-    refuses _ _ _ (set-refused _ _ _ _ _ _ (judged-refused _ _ _ (c .before .before .before .before .before .before .before .before .judge .ensures) (c .before .before .before .before .before .refusal .given .1))) (c .before .before .refuse3 .ensures .0) (c .before .before .refuse3 .ensures .1)
+    refuses _ _ _ (set-refused _ _ _ _ _ _ (judged-refused _ _ _ (c .before .before .before .before .before .before .before .before .judge .ensures) (c .before .before .before .before .before .refusal2 .given .1))) (c .before .before .refuse3 .ensures .0) (c .before .before .refuse3 .ensures .1)
 
 pub set-value-spec : {M : Type 1} → statement M
 set-value-spec =
@@ -101,10 +109,12 @@ set-value-spec =
     slice-aggregate-judge
     judge-requires
     enum-known-count
-    is-lawful-requires
+    slash-requires
+    enum-known-refusal
     refuse-requires
     same-length
     returns
+    enum-told
     refuse-requires-2
     same-length-2
     returns-2
@@ -116,7 +126,7 @@ set-value-spec =
     slice-aggregate-write-chosen-2
     slice-aggregate-write-chosen-3
     write-chosen-requires
-    enum-known-refusal
+    enum-known-refusal-2
     refuse-requires-3
     same-length-3
     returns-3

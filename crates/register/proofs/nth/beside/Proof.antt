@@ -1,9 +1,11 @@
+use borrow.Author.Needs.{needs}
+use mathlib.Core.Path.{sym, _∙_}
 use native.Mathlib.Omega.{arith}
+use Rattle.key.proofs.SlashLaws.{slash-done}
 use Rattle.register.proofs.Verdicts.{judged-refused}
-use Rattle.register.proofs.Calls.{accepting, lawful-yes, lawful-no}
+use Rattle.register.proofs.Calls.{accepting}
 use Rattle.register.proofs.Listings.{record-refused, record-same}
 use Rattle.register.proofs.Ranges.{beside-refused, beside-unlawful, after-given, after-none, before-given, before-none}
-use borrow.Author.Needs.{needs}
 use Rattle.register.proofs.nth.beside.Statement.{statement}
 use Rattle.register.proofs.nth.beside.Tie as tie
 
@@ -16,8 +18,11 @@ judge-requires c κs = search needs
 enum-known-count : tie.Need-enum-known-count
 enum-known-count c = search needs
 
-is-lawful-requires : tie.Need-is-lawful-requires
-is-lawful-requires c κs = search needs
+slash-requires : tie.Need-slash-requires
+slash-requires c κs = search needs
+
+enum-known-refusal : tie.Need-enum-known-refusal
+enum-known-refusal c = search needs
 
 refuse-record-requires : tie.Need-refuse-record-requires
 refuse-record-requires c κs = search needs
@@ -27,16 +32,19 @@ same-length c = search needs
 
 returns : tie.Need-returns
 returns c =
-    let a = accepting _ _ _ (c .before .before .before .before .before .before .before .before .before .before .before .judge .ensures) (c .before .before .before .before .before .before .before .before .count .given .1) (λ i h. omega (arith, c .before .before .before .before .before .before .before .before .before .before .before .before .before .before .before .shared-slice-known .given i)) (c .before .before .before .before .before .before .before .before .before .before .before .judge .kept .1 .0) in
+    let a = accepting _ _ _ (c .before .before .before .before .before .before .before .before .before .before .before .before .before .judge .ensures) (c .before .before .before .before .before .before .before .before .before .before .count .given .1) (λ i h. omega (arith, c .before .before .before .before .before .before .before .before .before .before .before .before .before .before .before .before .before .shared-slice-known .given i)) (c .before .before .before .before .before .before .before .before .before .before .before .before .before .judge .kept .1 .0) in
     let r = c .before .before .refuse-record in
-    record-refused _ _ _ _ (beside-unlawful _ _ _ _ (a .given .tree) (a .given .judged) (lawful-no _ _ (c .before .before .before .before .before .before .is-lawful .ensures) (c .before .before .before .before .before .if1 .taken))) (r .ensures .0) (r .ensures .1 .0) (r .ensures .1 .1)
+    record-refused _ _ _ _ (beside-unlawful _ _ _ _ (a .given .tree) (a .given .judged) (sym (c .before .before .before .before .before .before .before .before .slash .ensures) ∙ c .before .before .before .before .before .before .refusal .given .1)) (r .ensures .0) (r .ensures .1 .0) (r .ensures .1 .1)
+
+enum-told : tie.Need-enum-told
+enum-told c = search needs
 
 slice-aggregate-count-below : tie.Need-slice-aggregate-count-below
 slice-aggregate-count-below c = search needs
 
 count-below-requires : tie.Need-count-below-requires
 count-below-requires c κs =
-    let a = accepting _ _ _ (c .before .before .before .before .before .before .before .judge .ensures) (c .before .before .before .before .count .given .1) (λ i h. omega (arith, c .before .before .before .before .before .before .before .before .before .before .before .shared-slice-known .given i)) (c .before .before .before .before .before .before .before .judge .kept .1 .0) in
+    let a = accepting _ _ _ (c .before .before .before .before .before .before .before .before .judge .ensures) (c .before .before .before .before .before .count .given .1) (λ i h. omega (arith, c .before .before .before .before .before .before .before .before .before .before .before .before .shared-slice-known .given i)) (c .before .before .before .before .before .before .before .before .judge .kept .1 .0) in
     a .fits
 
 refuse-record-requires-2 : tie.Need-refuse-record-requires-2
@@ -47,16 +55,16 @@ same-length-2 c = search needs
 
 returns-2 : tie.Need-returns-2
 returns-2 c =
-    let a = accepting _ _ _ (c .before .before .before .before .before .before .before .before .before .before .before .before .before .before .before .judge .ensures) (c .before .before .before .before .before .before .before .before .before .before .before .before .count .given .1) (λ i h. omega (arith, c .before .before .before .before .before .before .before .before .before .before .before .before .before .before .before .before .before .before .before .shared-slice-known .given i)) (c .before .before .before .before .before .before .before .before .before .before .before .before .before .before .before .judge .kept .1 .0) in
+    let a = accepting _ _ _ (c .before .before .before .before .before .before .before .before .before .before .before .before .before .before .before .before .judge .ensures) (c .before .before .before .before .before .before .before .before .before .before .before .before .before .count .given .1) (λ i h. omega (arith, c .before .before .before .before .before .before .before .before .before .before .before .before .before .before .before .before .before .before .before .before .shared-slice-known .given i)) (c .before .before .before .before .before .before .before .before .before .before .before .before .before .before .before .before .judge .kept .1 .0) in
     let r = c .before .before .refuse-record2 in
-    record-refused _ _ _ _ (after-none (a .given) _ (lawful-yes _ _ (c .before .before .before .before .before .before .before .before .before .before .is-lawful .ensures) (c .before .before .before .before .before .before .before .before .before .if1 .left)) _ _ (c .before .before .before .before .before .before .before .count-below .ensures .0) _ (c .before .before .before .before .before .before .if2 .taken) (omega arith)) (r .ensures .0) (r .ensures .1 .0) (r .ensures .1 .1)
+    record-refused _ _ _ _ (after-none (a .given) _ (slash-done _ _ (sym (c .before .before .before .before .before .before .before .before .before .before .before .slash .ensures) ∙ c .before .before .before .before .before .before .before .before .before .enum-told .given .1)) _ _ (c .before .before .before .before .before .before .before .count-below .ensures .0) _ (c .before .before .before .before .before .before .if1 .taken) (omega arith)) (r .ensures .0) (r .ensures .1 .0) (r .ensures .1 .1)
 
 slice-aggregate-give-nth : tie.Need-slice-aggregate-give-nth
 slice-aggregate-give-nth c = search needs
 
 give-nth-requires : tie.Need-give-nth-requires
 give-nth-requires c κs =
-    let a = accepting _ _ _ (c .before .before .before .before .before .before .before .before .before .before .before .before .before .judge .ensures) (c .before .before .before .before .before .before .before .before .before .before .count .given .1) (λ i h. omega (arith, c .before .before .before .before .before .before .before .before .before .before .before .before .before .before .before .before .before .shared-slice-known .given i)) (c .before .before .before .before .before .before .before .before .before .before .before .before .before .judge .kept .1 .0) in
+    let a = accepting _ _ _ (c .before .before .before .before .before .before .before .before .before .before .before .before .before .before .judge .ensures) (c .before .before .before .before .before .before .before .before .before .before .before .count .given .1) (λ i h. omega (arith, c .before .before .before .before .before .before .before .before .before .before .before .before .before .before .before .before .before .before .shared-slice-known .given i)) (c .before .before .before .before .before .before .before .before .before .before .before .before .before .before .judge .kept .1 .0) in
     (a .given, omega arith, a .fits)
 
 same-length-3 : tie.Need-same-length-3
@@ -64,9 +72,9 @@ same-length-3 c = search needs
 
 returns-3 : tie.Need-returns-3
 returns-3 c =
-    let a = accepting _ _ _ (c .before .before .before .before .before .before .before .before .before .before .before .before .before .before .before .before .judge .ensures) (c .before .before .before .before .before .before .before .before .before .before .before .before .before .count .given .1) (λ i h. omega (arith, c .before .before .before .before .before .before .before .before .before .before .before .before .before .before .before .before .before .before .before .before .shared-slice-known .given i)) (c .before .before .before .before .before .before .before .before .before .before .before .before .before .before .before .before .judge .kept .1 .0) in
+    let a = accepting _ _ _ (c .before .before .before .before .before .before .before .before .before .before .before .before .before .before .before .before .before .judge .ensures) (c .before .before .before .before .before .before .before .before .before .before .before .before .before .before .count .given .1) (λ i h. omega (arith, c .before .before .before .before .before .before .before .before .before .before .before .before .before .before .before .before .before .before .before .before .before .shared-slice-known .given i)) (c .before .before .before .before .before .before .before .before .before .before .before .before .before .before .before .before .before .judge .kept .1 .0) in
     let r = c .before .before .give-nth in
-    record-same _ _ _ _ (after-given (a .given) _ (lawful-yes _ _ (c .before .before .before .before .before .before .before .before .before .before .before .is-lawful .ensures) (c .before .before .before .before .before .before .before .before .before .before .if1 .left)) _ _ (c .before .before .before .before .before .before .before .before .count-below .ensures .0) _ (c .before .before .before .before .before .before .before .if2 .taken) (omega arith)) (r .ensures)
+    record-same _ _ _ _ (after-given (a .given) _ (slash-done _ _ (sym (c .before .before .before .before .before .before .before .before .before .before .before .before .slash .ensures) ∙ c .before .before .before .before .before .before .before .before .before .before .enum-told .given .1)) _ _ (c .before .before .before .before .before .before .before .before .count-below .ensures .0) _ (c .before .before .before .before .before .before .before .if1 .taken) (omega arith)) (r .ensures)
 
 refuse-record-requires-3 : tie.Need-refuse-record-requires-3
 refuse-record-requires-3 c κs = search needs
@@ -76,9 +84,9 @@ same-length-4 c = search needs
 
 returns-4 : tie.Need-returns-4
 returns-4 c =
-    let a = accepting _ _ _ (c .before .before .before .before .before .before .before .before .before .before .before .before .before .before .before .judge .ensures) (c .before .before .before .before .before .before .before .before .before .before .before .before .count .given .1) (λ i h. omega (arith, c .before .before .before .before .before .before .before .before .before .before .before .before .before .before .before .before .before .before .before .shared-slice-known .given i)) (c .before .before .before .before .before .before .before .before .before .before .before .before .before .before .before .judge .kept .1 .0) in
+    let a = accepting _ _ _ (c .before .before .before .before .before .before .before .before .before .before .before .before .before .before .before .before .judge .ensures) (c .before .before .before .before .before .before .before .before .before .before .before .before .before .count .given .1) (λ i h. omega (arith, c .before .before .before .before .before .before .before .before .before .before .before .before .before .before .before .before .before .before .before .before .shared-slice-known .given i)) (c .before .before .before .before .before .before .before .before .before .before .before .before .before .before .before .before .judge .kept .1 .0) in
     let r = c .before .before .refuse-record3 in
-    record-refused _ _ _ _ (before-none (a .given) _ (lawful-yes _ _ (c .before .before .before .before .before .before .before .before .before .before .is-lawful .ensures) (c .before .before .before .before .before .before .before .before .before .if1 .left)) _ _ (c .before .before .before .before .before .before .before .count-below .ensures .0) _ (c .before .before .before .before .before .before .if2 .left) (omega arith)) (r .ensures .0) (r .ensures .1 .0) (r .ensures .1 .1)
+    record-refused _ _ _ _ (before-none (a .given) _ (slash-done _ _ (sym (c .before .before .before .before .before .before .before .before .before .before .before .slash .ensures) ∙ c .before .before .before .before .before .before .before .before .before .enum-told .given .1)) _ _ (c .before .before .before .before .before .before .before .count-below .ensures .0) _ (c .before .before .before .before .before .before .if1 .left) (omega arith)) (r .ensures .0) (r .ensures .1 .0) (r .ensures .1 .1)
 
 slice-aggregate-give-nth-2 : tie.Need-slice-aggregate-give-nth-2
 slice-aggregate-give-nth-2 c = search needs
@@ -88,11 +96,11 @@ sub-give-nth c = search needs
 
 give-nth-requires-2 : tie.Need-give-nth-requires-2
 give-nth-requires-2 c κs =
-    let a = accepting _ _ _ (c .before .before .before .before .before .before .before .before .before .before .before .before .before .judge .ensures) (c .before .before .before .before .before .before .before .before .before .before .count .given .1) (λ i h. omega (arith, c .before .before .before .before .before .before .before .before .before .before .before .before .before .before .before .before .before .shared-slice-known .given i)) (c .before .before .before .before .before .before .before .before .before .before .before .before .before .judge .kept .1 .0) in
+    let a = accepting _ _ _ (c .before .before .before .before .before .before .before .before .before .before .before .before .before .before .judge .ensures) (c .before .before .before .before .before .before .before .before .before .before .before .count .given .1) (λ i h. omega (arith, c .before .before .before .before .before .before .before .before .before .before .before .before .before .before .before .before .before .before .shared-slice-known .given i)) (c .before .before .before .before .before .before .before .before .before .before .before .before .before .before .judge .kept .1 .0) in
     (a .given, omega (arith, c .before .before .before .before .before .count-below .ensures .1), a .fits)
 
-enum-known-refusal : tie.Need-enum-known-refusal
-enum-known-refusal c = search needs
+enum-known-refusal-2 : tie.Need-enum-known-refusal-2
+enum-known-refusal-2 c = search needs
 
 refuse-record-requires-4 : tie.Need-refuse-record-requires-4
 refuse-record-requires-4 c κs = search needs
@@ -102,9 +110,9 @@ same-length-5 c = search needs
 
 returns-5 : tie.Need-returns-5
 returns-5 c =
-    let a = accepting _ _ _ (c .before .before .before .before .before .before .before .before .before .before .before .before .before .before .before .before .judge .ensures) (c .before .before .before .before .before .before .before .before .before .before .before .before .before .count .given .1) (λ i h. omega (arith, c .before .before .before .before .before .before .before .before .before .before .before .before .before .before .before .before .before .before .before .before .shared-slice-known .given i)) (c .before .before .before .before .before .before .before .before .before .before .before .before .before .before .before .before .judge .kept .1 .0) in
+    let a = accepting _ _ _ (c .before .before .before .before .before .before .before .before .before .before .before .before .before .before .before .before .before .judge .ensures) (c .before .before .before .before .before .before .before .before .before .before .before .before .before .before .count .given .1) (λ i h. omega (arith, c .before .before .before .before .before .before .before .before .before .before .before .before .before .before .before .before .before .before .before .before .before .shared-slice-known .given i)) (c .before .before .before .before .before .before .before .before .before .before .before .before .before .before .before .before .before .judge .kept .1 .0) in
     let r = c .before .before .give-nth2 in
-    record-same _ _ _ _ (before-given (a .given) _ (lawful-yes _ _ (c .before .before .before .before .before .before .before .before .before .before .before .is-lawful .ensures) (c .before .before .before .before .before .before .before .before .before .before .if1 .left)) _ _ (c .before .before .before .before .before .before .before .before .count-below .ensures .0) _ (c .before .before .before .before .before .before .before .if2 .left) (omega arith) (c .before .before .before .before .before .before .before .before .count-below .ensures .1)) (r .ensures)
+    record-same _ _ _ _ (before-given (a .given) _ (slash-done _ _ (sym (c .before .before .before .before .before .before .before .before .before .before .before .before .slash .ensures) ∙ c .before .before .before .before .before .before .before .before .before .before .enum-told .given .1)) _ _ (c .before .before .before .before .before .before .before .before .count-below .ensures .0) _ (c .before .before .before .before .before .before .before .if1 .left) (omega arith) (c .before .before .before .before .before .before .before .before .count-below .ensures .1)) (r .ensures)
 
 same-length-6 : tie.Need-same-length-6
 same-length-6 c = search needs
@@ -112,7 +120,7 @@ same-length-6 c = search needs
 returns-6 : tie.Need-returns-6
 returns-6 c =
     let r = c .before .before .refuse-record4 in
-    record-refused _ _ _ _ (beside-refused _ _ _ _ (judged-refused _ _ _ (c .before .before .before .before .before .before .before .before .before .judge .ensures) (c .before .before .before .before .before .before .refusal .given .1))) (r .ensures .0) (r .ensures .1 .0) (r .ensures .1 .1)
+    record-refused _ _ _ _ (beside-refused _ _ _ _ (judged-refused _ _ _ (c .before .before .before .before .before .before .before .before .before .judge .ensures) (c .before .before .before .before .before .before .refusal2 .given .1))) (r .ensures .0) (r .ensures .1 .0) (r .ensures .1 .1)
 
 pub beside-spec : {M : Type 1} → statement M
 beside-spec =
@@ -121,10 +129,12 @@ beside-spec =
     slice-aggregate-judge
     judge-requires
     enum-known-count
-    is-lawful-requires
+    slash-requires
+    enum-known-refusal
     refuse-record-requires
     same-length
     returns
+    enum-told
     slice-aggregate-count-below
     count-below-requires
     refuse-record-requires-2
@@ -140,7 +150,7 @@ beside-spec =
     slice-aggregate-give-nth-2
     sub-give-nth
     give-nth-requires-2
-    enum-known-refusal
+    enum-known-refusal-2
     refuse-record-requires-4
     same-length-5
     returns-5
