@@ -1,10 +1,10 @@
 -- The last blocks, as the code fills them in.
 use mathlib.Core.Path.{_≡_, refl, sym, ap, ap₂, _∙_}
 use mathlib.Core.List.{List, [], _∷_, _++_, append-assoc}
-use Prim.Native.Nat.{ℕ, zero, suc, _+_, _-_, _*_, _/_, _%_, _^_, _≤_, _<_}
+use Prim.Native.Nat.{ℕ, zero, suc, _+_, _-_, _*_, _/_, _%_, _^_, _≤_}
 use native.Mathlib.Nat.{zero-add, sub-zero, zero-sub, suc-sub-suc, le-of-suc-le-suc, not-suc-le-zero}
 use native.Mathlib.Omega.{arith}
-use lib.ListN.{length, take, drop, length-append, length-replicate}
+use lib.ListN.{length, take, drop, length-append}
 use lib.Seq.{paste, take-length, take-append-seam, drop-append-add, take-append-add}
 use Rattle.fips180.specs.Hash.{zeros, ending, bytes64}
 

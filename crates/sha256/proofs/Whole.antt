@@ -1,30 +1,14 @@
 -- The hash of a message that is taken in two parts: its whole blocks, and the rest with the padding.
-use mathlib.Core.Path.{_≡_, refl, sym, ap, ap₂, _∙_}
-use mathlib.Core.List.{List, [], _∷_, _++_, append-assoc}
-use Prim.Native.Nat.{ℕ, zero, suc, _+_, _-_, _*_, _/_, _%_, _≤_, _<_}
-use native.Mathlib.Nat.{add-zero, add-suc, mul-div-cancel, zero-lt-suc}
+use mathlib.Core.Path.{_≡_, sym, ap, ap₂, _∙_}
+use mathlib.Core.List.{List, _∷_, _++_, append-assoc}
+use Prim.Native.Nat.{ℕ, _+_, _-_, _*_, _/_, _%_}
+use native.Mathlib.Nat.{mul-div-cancel, zero-lt-suc}
 use native.Mathlib.Omega.{arith}
 use lib.ListN.{length, take, drop, length-append, length-replicate, length-drop, take-append-drop}
-use lib.Seq.{take-all, length-take-le, take-append-le, drop-append-le, drop-append-add}
-use Rattle.fips180.specs.Hash.{zeros, run, compress, ending, bytes64, pad, hash, H0}
+use lib.Seq.{take-all, length-take-le}
+use Rattle.fips180.specs.Hash.{zeros, run, ending, bytes64, pad, hash, H0}
 use Rattle.fips180.specs.declared.State.{State}
-
--- the blocks of the front
-front : (n : ℕ) (s : State) (a b : List ℕ) → 64 * n ≤ length a → run n s (a ++ b) ≡ run n s a
-unfolding run
-front zero s a b h = refl
-front (suc n) s a b h =
-    ap₂ compress (front n s a b (omega arith))
-    (ap (take 64) (drop-append-le (64 * n) a b (omega arith)) ∙ take-append-le 64 (drop (64 * n) a) b (omega (arith, length-drop (64 * n) a)))
-
--- the blocks after a front of q blocks
-back : (j q : ℕ) (s : State) (a b : List ℕ) → length a ≡ 64 * q → run (q + j) s (a ++ b) ≡ run j (run q s (a ++ b)) b
-unfolding run
-back zero q s a b h = ap (λ (k : ℕ). run k s (a ++ b)) (add-zero q)
-back (suc j) q s a b h =
-    let e : 64 * (q + j) ≡ length a + 64 * j = omega arith in
-    ap (λ (k : ℕ). run k s (a ++ b)) (add-suc q j)
-    ∙ ap₂ compress (back j q s a b h) (ap (take 64) (ap (λ (k : ℕ). drop k (a ++ b)) e ∙ drop-append-add a b (64 * j)))
+use Rattle.sha256.proofs.Blocks.{front, back}
 
 length-ending : (m : List ℕ) (k n : ℕ) → length (ending m k n) ≡ length m + k + 9
 length-ending m k n =

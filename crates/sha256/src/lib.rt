@@ -1,5 +1,4 @@
 // SHA-256 of FIPS 180-4.
-mod block; // the schedule and the rounds of one block
 mod message; // padding, the blocks of a message
 
 ghost use mathlib.Core.Path.{_≡_};

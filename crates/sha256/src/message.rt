@@ -1,10 +1,11 @@
 // FIPS 180-4, sections 5.1.1 and 6.2: the blocks of a message and its padding.
-use crate::block::compress_of;
 use fips180::State;
 use fips180::low;
+use rounds::compress_four;
+use rounds::compress_of;
 ghost use mathlib.Core.Path.{_≡_};
 ghost use mathlib.Core.List.{_++_};
-ghost use Prim.Native.Nat.{_+_, _-_, _*_, _≤_};
+ghost use Prim.Native.Nat.{_+_, _-_, _*_, _/_, _≤_};
 ghost use lib.ListN.{length};
 ghost use lib.Seq.{paste};
 ghost use Rattle.fips180.specs.Hash.{H0, run, bytes64, zeros, ending, words, bytesOf};
@@ -24,6 +25,38 @@ fn absorb(s: State, m: &[u8], n: usize) -> State
         k += 1;
     }
     x
+}
+
+// The hash value s after the first n fours of blocks of m.
+fn absorb_fours(s: State, m: &[u8], n: usize) -> State
+    requires { ⌜ 256 * n ≤ length (now m) ⌝ }
+    ensures { λ r. ⌜ r ≡ run (4 * n) s (now (m .entry)) ⌝ }
+{
+    // A message without a four clears no room for words.
+    if n == 0 {
+        return s;
+    }
+    let mut w = [0u32; 256];
+    let mut x = s;
+    let mut k = 0;
+    while k < n {
+        let at = 256 * k;
+        let e = at + 256;
+        x = compress_four(x, &mut w, &m[at..e]);
+        k += 1;
+    }
+    x
+}
+
+// The hash value after all whole blocks of m.
+fn absorb_whole(m: &[u8]) -> State
+    ensures { λ r. ⌜ r ≡ run (length (now (m .entry)) / 64) H0 (now (m .entry)) ⌝ }
+{
+    let f = m.len() / 256;
+    let x = absorb_fours(start(), m, f);
+    let at = 256 * f;
+    let rest = &m[at..];
+    absorb(x, rest, rest.len() / 64)
 }
 
 // The initial hash value.
@@ -110,20 +143,18 @@ fn put(t: &mut [u8], at: usize, src: &[u8])
     }
 }
 
-// The last j blocks of a padded message of n bytes, whose last bytes are rest.
-fn last_blocks(rest: &[u8], n: u64, j: usize) -> [u8; 128]
-    requires { ⌜ (j ≤ 2) × (length (now rest) + 9 ≤ 64 * j) ⌝ }
-    ensures { λ r. ⌜ r ≡ ending (now (rest .entry)) (64 * j - 9 - length (now (rest .entry))) n ++ zeros (128 - 64 * j) ⌝ }
+// In t, which has zeros: the last j blocks of a padded message of n bytes, whose last bytes are rest.
+fn last_blocks(t: &mut [u8], rest: &[u8], n: u64, j: usize)
+    requires { ⌜ (now t ≡ zeros 128) × (j ≤ 2) × (length (now rest) + 9 ≤ 64 * j) ⌝ }
+    ensures { λ _. ⌜ now (t .exit) ≡ ending (now (rest .entry)) (64 * j - 9 - length (now (rest .entry))) n ++ zeros (128 - 64 * j) ⌝ }
 {
-    let mut t = [0u8; 128];
-    put(&mut t, 0, rest);
+    put(t, 0, rest);
     let mark = [0x80u8; 1];
     let r = rest.len();
-    put(&mut t, r, &mark);
+    put(t, r, &mark);
     let bits = length_bytes(n);
     let e = 64 * j - 8;
-    put(&mut t, e, &bits);
-    t
+    put(t, e, &bits);
 }
 
 // The eight words of a message's digest.
@@ -133,9 +164,10 @@ pub fn hash(input: &[u8]) -> State
     let n = input.len();
     let q = n / 64;
     let at = 64 * q;
-    let x = absorb(start(), input, q);
+    let x = absorb_whole(input);
     let rest = &input[at..];
     let j = (rest.len() + 8) / 64 + 1;
-    let t = last_blocks(rest, n as u64, j);
+    let mut t = [0u8; 128];
+    last_blocks(&mut t, rest, n as u64, j);
     absorb(x, &t, j)
 }

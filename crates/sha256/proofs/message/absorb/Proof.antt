@@ -1,11 +1,9 @@
 use Rattle.sha256.proofs.Blocks.{part-length, turn}
 use borrow.Author.Needs.{needs}
-use mathlib.Core.Path.{_≡_, refl, sym, ap, _∙_}
-use Prim.Native.Nat.{ℕ, _≤_, _-_, _*_}
+use mathlib.Core.Path.{_≡_, refl}
+use Prim.Native.Nat.{_≤_, _-_}
 use native.Mathlib.Omega.{arith}
-use native.Mathlib.Numerals.{add-one}
-use lib.ListN.{length, take, drop}
-use Rattle.fips180.specs.Hash.{run, compress}
+use Rattle.fips180.specs.Hash.{run}
 use Rattle.sha256.proofs.message.absorb.Statement.{statement}
 use Rattle.sha256.proofs.message.absorb.Tie as tie
 
@@ -35,7 +33,7 @@ part-compress-of-end : tie.Need-part-compress-of-end Inv-loop μ-loop
 part-compress-of-end c = search needs
 
 compress-of-requires : tie.Need-compress-of-requires Inv-loop μ-loop
-compress-of-requires c κs = part-length _ (c .before .before .loop .k) (omega arith)
+compress-of-requires c κs = part-length _ 64 (c .before .before .loop .k) (omega arith)
 
 add-k : tie.Need-add-k Inv-loop μ-loop
 add-k c = search needs

@@ -1,8 +1,4 @@
-use Prim.Native.Nat.{_/_}
-use lib.ListN.{length}
-use Rattle.fips180.specs.declared.State.{State}
-use Rattle.fips180.specs.Hash.{run}
-use mathlib.Core.Path.{_≡_, refl, sym, ap, ap₂, _∙_}
+use mathlib.Core.Path.{refl, _∙_}
 use Rattle.sha256.proofs.Whole.{done}
 use borrow.Author.Needs.{needs}
 use Rattle.sha256.proofs.message.hash.Statement.{statement}
@@ -11,11 +7,8 @@ use Rattle.sha256.proofs.message.hash.Tie as tie
 mul-at : tie.Need-mul-at
 mul-at c = search needs
 
-start-requires : tie.Need-start-requires
-start-requires c κs = search needs
-
-absorb-requires : tie.Need-absorb-requires
-absorb-requires c κs = search needs
+absorb-whole-requires : tie.Need-absorb-whole-requires
+absorb-whole-requires c κs = search needs
 
 sub-rest : tie.Need-sub-rest
 sub-rest c = search needs
@@ -32,34 +25,35 @@ add-j c = search needs
 add-j-2 : tie.Need-add-j-2
 add-j-2 c = search needs
 
+slice-aggregate-last-blocks : tie.Need-slice-aggregate-last-blocks
+slice-aggregate-last-blocks c = search needs
+
 last-blocks-requires : tie.Need-last-blocks-requires
 last-blocks-requires c κs = search needs
 
 slice-aggregate-absorb : tie.Need-slice-aggregate-absorb
 slice-aggregate-absorb c = search needs
 
-absorb-requires-2 : tie.Need-absorb-requires-2
-absorb-requires-2 c κs = search needs
+absorb-requires : tie.Need-absorb-requires
+absorb-requires c κs = search needs
 
 returns : tie.Need-returns
-returns c =
-    let m = c .before .before .before .before .before .before .before .args .input .now in
-    c .absorb2 .ensures
-    ∙ done m _ (length m / 64) _ _ refl refl (c .before .before .last-blocks .ensures) (c .before .before .before .before .absorb .ensures ∙ ap (λ (s : State). run (length m / 64) s m) (c .before .before .before .before .before .start .ensures))
+returns c = let m = c .before .before .before .before .before .before .before .before .args .input .now in
+    c .absorb .ensures ∙ done m _ _ _ _ refl refl (c .before .before .before .last-blocks .ensures) (c .before .before .before .before .before .before .absorb-whole .ensures)
 
 pub hash-spec : {M : Type 1} → statement M
 hash-spec =
     tie.close
     (tie.spec
     mul-at
-    start-requires
-    absorb-requires
+    absorb-whole-requires
     sub-rest
     part-rest-start
     part-rest-end
     add-j
     add-j-2
+    slice-aggregate-last-blocks
     last-blocks-requires
     slice-aggregate-absorb
-    absorb-requires-2
+    absorb-requires
     returns)

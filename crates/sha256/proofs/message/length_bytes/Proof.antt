@@ -1,4 +1,3 @@
-use mathlib.Core.Path.{_∙_}
 use Rattle.sha256.proofs.Tail.{length-in-bits}
 use borrow.Author.Needs.{needs}
 use Rattle.sha256.proofs.message.length_bytes.Statement.{statement}

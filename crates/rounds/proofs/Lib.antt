@@ -1,0 +1,4 @@
+pub mod Making
+pub mod ChLaws
+pub mod ScheduleLaws
+pub mod RoundLaws
