@@ -182,11 +182,13 @@ module _ (key val page : List ℕ) (rule : lawful key ≡ true) (size : length v
     single-is =
         let low : layer ≤ 128 = omega (arith, layer-le key) in
         let stands : (s : List ℕ) → Stands s bytes word = λ s. record {
-          slot = slot;
-          there = rw (source-second s bytes word (omega arith)) slot-there;
-          page = omega (arith, four);
-          entry = omega (arith, four);
+          held = record {
+            slot = slot;
+            there = rw (source-second s bytes word (omega arith)) slot-there;
+            page = omega (arith, four);
+            entry = omega (arith, four);
+            lawful = rule;
+          };
           layer = omega (arith, four);
-          lawful = rule;
         } in
-        record { stands = stands; spells = λ s. word-record (stands s) }
+        record { stands = stands; spells = λ s. word-record (stands s .held) }

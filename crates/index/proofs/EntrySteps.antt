@@ -1,12 +1,14 @@
 -- The walk over the entries of a page.
 use Prim.Native.Nat.{ℕ, zero, suc, _+_, _-_, _≤_, _<_}
 use mathlib.Core.Path.{_≡_, refl, sym, ap, subst, _∙_}
-use mathlib.Core.Bool.{true}
+use mathlib.Core.Bool.{Bool, true}
 use mathlib.Core.List.{List, [], _∷_, _++_}
 use native.Mathlib.Omega.{arith}
 use native.Mathlib.Numerals.{add-one}
 use native.Mathlib.Nat.{sub-zero}
 use lib.ListN.{length, take, drop, length-append, length-take}
+use lib.Dec.{eqb}
+use Rattle.key.specs.Key.{shared}
 use Rattle.fips180.specs.Bytes.{Bytes}
 use Rattle.page.specs.Reading.{read, Reader, andThen, times}
 use Rattle.page.specs.Page.{RawEntry, entry as entryReader}
@@ -19,19 +21,21 @@ use Rattle.page.specs.declared.reading.EntryRead.the-variants.{EntryStop}
 use Rattle.page.specs.declared.reading.PageRead.{PageRead}
 use Rattle.page.proofs.Readers.{endsEarly≢read, departs≢read, read-sub, andThen-inv}
 use Rattle.page.proofs.Places.{then-stops}
-use Rattle.tree.specs.Tree.{page, Gap, empty, under, Entries, end, entry}
+use Rattle.tree.specs.Tree.{page, Gap, empty, under, Entries, end, entry, itemsUnder}
 use Rattle.tree.specs.Record.{Spelt, recordOf}
 use Rattle.tree.specs.Table.{linkOf, tableUnder, readUnder, readFrom, readTree, deepest}
-use Rattle.tree.specs.Judge.{prefixesRight, prefixesRightUnder, digestsRight, digestsRightUnder, digestsRightFrom}
+use Rattle.tree.specs.Judge.{prefixesRight, prefixesRightUnder, prefixesRightFrom}
 use Rattle.tree.specs.Place.{lengthOfEntry}
 use Rattle.index.specs.Slot.{slots, slotsUnder, slotsFrom, filled, filledUnder, filledFrom}
-use Rattle.index.specs.Buffer.{HoldsKey, Extended}
-use Rattle.index.specs.Walk.{labelled, holding, Moved, Outcome, PageSays, prefixesUnderFrom, EntriesSay, Taken}
+use Rattle.index.specs.Buffer.{HoldsKey, Extended, PrefixIs}
+use Rattle.index.specs.Chain.{Chain, labelsOn, chains, chainsUnder, chainsFrom, LabelsAt}
+use Rattle.index.specs.Walk.{holding, Moved, Outcome, PageSays, EntriesSay, Taken}
 use Rattle.index.specs.declared.walk.State.{State}
 use Rattle.index.specs.declared.walk.Walked.{Walked}
 use Rattle.index.specs.declared.walk.Walked.the-variants.{Whole, Stopped}
 use Rattle.index.proofs.Moves.{moved-none, moved-seq}
 use Rattle.index.proofs.Lengths.{under-link, under-ends, entry-ends}
+use Rattle.index.proofs.SlotLaws.{slots-count}
 
 -- ---- what an answer says, at the answer that it is
 pub entry-is : (s : List ℕ) (at : ℕ) {r x : EntryRead} → EntryIs s at r → r ≡ x → EntryIs s at x
@@ -40,54 +44,60 @@ entry-is s at w e = subst (EntryIs s at) e w
 pub page-is : (s : List ℕ) (at : ℕ) {r x : PageRead} → PageIs s at r → r ≡ x → PageIs s at x
 page-is s at w e = subst (PageIs s at) e w
 
-pub says-is : (s index last : List ℕ) (top level link : ℕ) (st : State) (index′ last′ : List ℕ) {r x : Walked}
-    → PageSays s index last top level link st r index′ last′ → r ≡ x → PageSays s index last top level link st x index′ last′
-says-is s index last top level link st index′ last′ w e = subst (λ (y : Walked). PageSays s index last top level link st y index′ last′) e w
+pub says-is : (s index row last : List ℕ) (level link above : ℕ) (st : State) (index′ row′ last′ : List ℕ) {r x : Walked}
+    → PageSays s index row last level link above st r index′ row′ last′ → r ≡ x → PageSays s index row last level link above st x index′ row′ last′
+says-is s index row last level link above st index′ row′ last′ w e = subst (λ (y : Walked). PageSays s index row last level link above st y index′ row′ last′) e w
 
 -- ---- gaps
 -- what is under the gap whose link stands at `link`, or nothing where `link` is 0
-abbrev pub GapSays : List ℕ → List ℕ → List ℕ → ℕ → ℕ → ℕ → State → Walked → List ℕ → List ℕ → Type 0
-GapSays s index last top level link st r index′ last′ =
-    Outcome s index last top 0 (readUnder (readTree (deepest - suc level)) (linkAt s link) (drop (st .next) s)) (slotsUnder (level + 1) (st .next))
-    prefixesRightUnder filledUnder digestsRightUnder st r index′ last′
+abbrev pub GapSays : List ℕ → List ℕ → List ℕ → List ℕ → ℕ → ℕ → State → Walked → List ℕ → List ℕ → List ℕ → Type 0
+GapSays s index row last level link st r index′ row′ last′ =
+    Outcome s index row last 0 (readUnder (readTree (deepest - suc level)) (linkAt s link) (drop (st .next) s)) (slotsUnder (level + 1) (st .next))
+    (chainsUnder (st .count) (st .next) []) prefixesRightUnder filledUnder st r index′ row′ last′
 
-pub gap-none : (s index last : List ℕ) (top level link : ℕ) (st : State) → link ≡ 0 → st .next ≤ length s
-    → GapSays s index last top level link st (Whole st) index last
-unfolding readUnder linkAt slots prefixesRight filled digestsRight
-gap-none s index last top level link st e h = rw e (record { what = empty; reads = refl; few = omega arith; moved = moved-none h })
+pub gap-none : (s index row last : List ℕ) (level link : ℕ) (st : State) → link ≡ 0 → st .next ≤ length s
+    → GapSays s index row last level link st (Whole st) index row last
+unfolding readUnder linkAt slots chains prefixesRight filled
+gap-none s index row last level link st e h =
+    rw e (record { what = empty; reads = refl; few = omega arith; fewChains = omega arith; moved = moved-none h })
 
-gap-some : (s index last : List ℕ) (top level k : ℕ) (st : State) (r : Walked) (index′ last′ : List ℕ)
-    → PageSays s index last top (level + 1) (suc k) st r index′ last′ → GapSays s index last top level (suc k) st r index′ last′
-unfolding readUnder linkAt slots prefixesRight filled digestsRight labelled holding
-gap-some s index last top level k st (Whole st′) index′ last′ o = record {
-  what = under (take 32 (drop (suc k) s)) (o .what);
-  reads = rw (← add-one level, o .reads);
-  few = o .few;
-  moved = o .moved;
-}
-gap-some s index last top level k st (Stopped stop) index′ last′ o = rw (← add-one level) (then-stops _ stop o)
+gap-some : (s index row last : List ℕ) (level k : ℕ) (st : State) (r : Walked) (index′ row′ last′ : List ℕ) → suc k + 32 ≤ length s
+    → PageSays s index row last (level + 1) (suc k) 0 st r index′ row′ last′ → GapSays s index row last level (suc k) st r index′ row′ last′
+unfolding PageSays LabelsAt readUnder linkAt slots chains prefixesRight filled holding
+gap-some s index row last level k st (Whole st′) index′ row′ last′ fits w =
+    let o = w (take 32 (drop (suc k) s) ∷ []) refl (omega arith, fits, refl, omega arith) in
+    record {
+      what = under (take 32 (drop (suc k) s)) (o .what);
+      reads = rw (← add-one level, o .reads);
+      few = o .few;
+      fewChains = o .fewChains;
+      moved = o .moved;
+    }
+gap-some s index row last level k st (Stopped stop) index′ row′ last′ fits w =
+    let o = w (take 32 (drop (suc k) s) ∷ []) refl (omega arith, fits, refl, omega arith) in
+    rw (← add-one level) (then-stops _ stop o)
 
-pub gap-page : (s index last : List ℕ) (top level link : ℕ) (st : State) (r : Walked) (index′ last′ : List ℕ) → (link ≡ 0 → ⊥)
-    → PageSays s index last top (level + 1) link st r index′ last′ → GapSays s index last top level link st r index′ last′
-gap-page s index last top level zero st r index′ last′ f o = absurd (f refl)
-gap-page s index last top level (suc k) st r index′ last′ f o = gap-some s index last top level k st r index′ last′ o
+pub gap-page : (s index row last : List ℕ) (level link : ℕ) (st : State) (r : Walked) (index′ row′ last′ : List ℕ) → (link ≡ 0 → ⊥) → link + 32 ≤ length s
+    → PageSays s index row last (level + 1) link 0 st r index′ row′ last′ → GapSays s index row last level link st r index′ row′ last′
+gap-page s index row last level zero st r index′ row′ last′ f fits o = absurd (f refl)
+gap-page s index row last level (suc k) st r index′ row′ last′ f fits o = gap-some s index row last level k st r index′ row′ last′ fits o
 
 -- what was read under a gap
-pub gap-ends : (s index last : List ℕ) (top level link : ℕ) (st st′ : State) (index′ last′ : List ℕ) → Bytes s
-    → (gap : GapSays s index last top level link st (Whole st′) index′ last′)
+pub gap-ends : (s index row last : List ℕ) (level link : ℕ) (st st′ : State) (index′ row′ last′ : List ℕ) → Bytes s
+    → (gap : GapSays s index row last level link st (Whole st′) index′ row′ last′)
     → (linkOf (gap .what) ≡ linkAt s link) × (st′ .next ≡ st .next + length (tableUnder (gap .what)))
-gap-ends s index last top level link st st′ index′ last′ slice gap = (
+gap-ends s index row last level link st st′ index′ row′ last′ slice gap = (
   under-link _ (linkAt s link) _ _ (gap .what) (gap .reads),
   under-ends s _ (st .next) (st′ .next) _ (gap .what) slice (omega (arith, gap .moved .ahead, gap .moved .within)) (gap .moved .within) (gap .reads),
 )
 
 -- ---- rows of entries
 -- the walk over the n entries from `at` on, after the key `before`, and over all pages below them
-unfoldable pub RestSays : List ℕ → List ℕ → List ℕ → ℕ → ℕ → ℕ → ℕ → ℕ → List ℕ → State → Walked → List ℕ → List ℕ → Type 0
-RestSays s index last top level pg at n before st r index′ last′ =
+unfoldable pub RestSays : List ℕ → List ℕ → List ℕ → List ℕ → ℕ → ℕ → ℕ → ℕ → List ℕ → State → Walked → List ℕ → List ℕ → List ℕ → Type 0
+RestSays s index row last level pg at n before st r index′ row′ last′ =
     (es : List RawEntry) (past : ℕ) → times n entryReader (drop at s) ≡ read es (drop past s)
-    → Outcome s index last top n (readFrom (readTree (deepest - suc level)) es (drop (st .next) s)) (slotsFrom level pg at (st .next) before)
-    prefixesUnderFrom filledFrom digestsRightFrom st r index′ last′
+    → Outcome s index row last n (readFrom (readTree (deepest - suc level)) es (drop (st .next) s)) (slotsFrom level pg at (st .next) before)
+    (chainsFrom (st .count) (st .next)) (prefixesRightFrom before) filledFrom st r index′ row′ last′
 
 times-none : {A : Type 0} (p : Reader A) (n : ℕ) (l rest : List ℕ) (xs : List A) → n ≡ 0 → times n p l ≡ read xs rest → xs ≡ []
 unfolding times
@@ -126,48 +136,57 @@ entry-slots : (level pg at below : ℕ) (before : List ℕ) (f : Spelt) (g : Gap
 unfolding slots
 entry-slots level pg at below before f g es to below₀ below₁ p q r = rw (p, r, q)
 
+-- the chains of what is under an entry's gap, and of the entries after it
+entry-chains : (from at : ℕ) (f : Spelt) (g : Gap Spelt (List ℕ)) (es : Entries Spelt (List ℕ)) (from₀ from₁ below₀ below₁ : ℕ)
+    → from₀ ≡ from + 1 → from₁ ≡ from₀ + length (itemsUnder g) → below₀ ≡ at → below₁ ≡ below₀ + length (tableUnder g)
+    → chainsFrom from at (entry f g es) ≡ [] ++ (chainsUnder from₀ below₀ [] g ++ chainsFrom from₁ below₁ es)
+unfolding chains
+entry-chains from at f g es from₀ from₁ below₀ below₁ p q r z = rw (z, r, q, p)
+
 -- ---- the loop over the entries of a page
 -- i entries are done and the next stands at `at`; what the walk over those left says tells what the walk over all says
-pub record Onward (s index₀ last₀ : List ℕ) (top level pg first n : ℕ) (st₀ : State) (index last buffer : List ℕ) (size : ℕ) (st : State) (at i : ℕ) : Type 0 where
+pub record Onward (s index₀ row₀ last₀ : List ℕ) (level pg first n : ℕ) (st₀ : State) (index row last buffer : List ℕ) (size : ℕ) (st : State) (at i : ℕ) : Type 0 where
   pub turns : i ≤ n
   pub ahead : st₀ .next ≤ st .next
   pub within : st .next ≤ length s
   pub few : st .count + (n - i) ≤ st .next
+  pub fewChains : st .chains ≤ st .next
   pub there : at ≤ length s
   pub room : length buffer ≡ 256
   pub before : List ℕ
   pub holds : HoldsKey buffer size before
-  pub onward : (r : Walked) (index′ last′ : List ℕ) → RestSays s index last top level pg at (n - i) before st r index′ last′
-      → EntriesSay s index₀ last₀ top level pg first n st₀ r index′ last′
+  pub onward : (r : Walked) (index′ row′ last′ : List ℕ) → RestSays s index row last level pg at (n - i) before st r index′ row′ last′
+      → EntriesSay s index₀ row₀ last₀ level pg first n st₀ r index′ row′ last′
 
 take-none : (n : ℕ) → take {A = ℕ} n [] ≡ []
 take-none zero = refl
 take-none (suc n) = refl
 
-pub onward-start : (s index last : List ℕ) (top level pg first n : ℕ) (st : State) (buffer : List ℕ) → st .next ≤ length s → st .count + n ≤ st .next
-    → first ≤ length s → length buffer ≡ 256 → Onward s index last top level pg first n st index last buffer 0 st first 0
+pub onward-start : (s index row last : List ℕ) (level pg first n : ℕ) (st : State) (buffer : List ℕ) → st .next ≤ length s → st .count + n ≤ st .next
+    → st .chains ≤ st .next → first ≤ length s → length buffer ≡ 256 → Onward s index row last level pg first n st index row last buffer 0 st first 0
 unfolding RestSays EntriesSay
-onward-start s index last top level pg first n st buffer h k f b = record {
+onward-start s index row last level pg first n st buffer h k c f b = record {
   turns = omega arith;
   ahead = omega arith;
   within = h;
   few = omega arith;
+  fewChains = c;
   there = f;
   room = b;
   before = [];
   holds = record { bytes = sym (take-none (length buffer)); size = refl };
-  onward = λ r index′ last′ w. simp sub-zero at w;
+  onward = λ r index′ row′ last′ w. simp sub-zero at w;
 }
 
-module _ {s index₀ last₀ : List ℕ} {top level pg first n : ℕ} {st₀ : State} {index last buffer : List ℕ} {size : ℕ} {st : State} {at i : ℕ}
-    (so-far : Onward s index₀ last₀ top level pg first n st₀ index last buffer size st at i) where
+module _ {s index₀ row₀ last₀ : List ℕ} {level pg first n : ℕ} {st₀ : State} {index row last buffer : List ℕ} {size : ℕ} {st : State} {at i : ℕ}
+    (so-far : Onward s index₀ row₀ last₀ level pg first n st₀ index row last buffer size st at i) where
   -- no entry is left
-  pub onward-end : n ≤ i → EntriesSay s index₀ last₀ top level pg first n st₀ (Whole st) index last
-  unfolding RestSays readFrom slots prefixesUnderFrom filled digestsRight
+  pub onward-end : n ≤ i → EntriesSay s index₀ row₀ last₀ level pg first n st₀ (Whole st) index row last
+  unfolding RestSays readFrom slots chains prefixesRight filled
   onward-end h =
-      so-far .onward (Whole st) index last (λ es past q.
+      so-far .onward (Whole st) index row last (λ es past q.
       rw (times-none entryReader (n - i) (drop at s) (drop past s) es (omega arith) q)
-      (record { what = end; reads = refl; few = omega arith; moved = moved-none (so-far .within) }))
+      (record { what = end; reads = refl; few = omega arith; fewChains = omega arith; moved = moved-none (so-far .within) }))
 
   module _ (more : i < n) where
     one-more : n - i ≡ suc (n - (i + 1))
@@ -175,53 +194,66 @@ module _ {s index₀ last₀ : List ℕ} {top level pg first n : ℕ} {st₀ : S
 
     -- the next entry was there when the page was read
     pub onward-there : (got : EntryRead) (stop : Stop) → EntryIs s at got → got ≡ EntryStop stop
-        → EntriesSay s index₀ last₀ top level pg first n st₀ (Stopped stop) index last
+        → EntriesSay s index₀ row₀ last₀ level pg first n st₀ (Stopped stop) index row last
     unfolding RestSays
     onward-there got stop w e =
-        so-far .onward (Stopped stop) index last (λ es past q.
+        so-far .onward (Stopped stop) index row last (λ es past q.
         absurd (times-stops entryReader (n - (i + 1)) (drop at s) (drop past s) es stop (entry-is s at w e) (rw one-more at q)))
 
-    -- it was read, its key is in the buffer, and its record was taken
+    -- it was read, its prefix was tested, its key is in the buffer, and its record was taken
     module _ (slice : Bytes s) (e : EntryAt) (here : EntryHere s at e)
+        (fits : Bool) (tested : PrefixIs buffer size s (e .shares) (e .remainder) (e .size) fits) (short : fits ≡ true → e .shares < length buffer)
         (buffer₁ : List ℕ) (size₁ : ℕ) (extended : Extended buffer size s (e .shares) (e .remainder) (e .size) buffer₁ size₁)
-        (index₁ last₁ : List ℕ) (st₁ : State) (taken : Taken index last top level pg at buffer₁ size₁ st st₁ index₁ last₁) where
+        (index₁ last₁ : List ℕ) (st₁ : State) (taken : Taken index last level pg at buffer₁ size₁ fits st st₁ index₁ last₁) where
       key-held : HoldsKey buffer₁ size₁ (keyAt s e (so-far .before))
       unfolding Extended
       key-held = extended (so-far .before) (so-far .holds)
 
+      abbrev prefixRight : Bool
+      prefixRight = eqb (e .shares) (shared (so-far .before) (keyAt s e (so-far .before)))
+
+      prefix-right : fits ≡ true → prefixRight ≡ true
+      unfolding PrefixIs
+      prefix-right h = sym (tested (so-far .before) (so-far .holds) (short h)) ∙ h
+
       record-moved : (t : List ℕ) → st .next ≤ length t → (value : ℕ)
-          → Moved t index last top (record { depth = level; page = pg; entry = at; value = value; item = recordOf (so-far .before) (speltAt s e) } ∷ []) true true true st st₁ index₁ last₁
+          → Moved t index row last (record { depth = level; page = pg; entry = at; value = value; item = recordOf (so-far .before) (speltAt s e) } ∷ []) [] prefixRight true st st₁ index₁ row last₁
       unfolding Taken
-      record-moved t h value = taken t h _ refl refl refl key-held
+      record-moved t h value = taken t row h _ refl refl refl key-held prefixRight prefix-right
 
       -- it takes no byte from what follows the page
-      pub onward-record : (st₁ .next ≡ st .next) × (st₁ .count ≡ st .count + 1)
+      pub onward-record : (st₁ .next ≡ st .next) × (st₁ .count ≡ st .count + 1) × (st₁ .chains ≡ st .chains)
       onward-record =
           let n = length-take (st .next) s in
           let m = record-moved (take (st .next) s) (omega (arith, n, so-far .within)) 0 in
-          (omega (arith, m .ahead, m .within, n), m .count)
+          (omega (arith, m .ahead, m .within, n), m .count, omega (arith, m .chainCount))
 
       -- it, what is under its gap, and the entries after it
-      rest-join : (index₂ last₂ : List ℕ) (st₂ : State) (es : List RawEntry) (r : Walked) (index′ last′ : List ℕ)
-          → GapSays s index₁ last₁ top level (e .link) st₁ (Whole st₂) index₂ last₂
-          → Outcome s index₂ last₂ top (n - (i + 1)) (readFrom (readTree (deepest - suc level)) es (drop (st₂ .next) s))
-          (slotsFrom level pg (e .end) (st₂ .next) (keyAt s e (so-far .before))) prefixesUnderFrom filledFrom digestsRightFrom st₂ r index′ last′
-          → Outcome s index last top (n - i) (readFrom (readTree (deepest - suc level)) (entryAt s e ∷ es) (drop (st .next) s))
-          (slotsFrom level pg at (st .next) (so-far .before)) prefixesUnderFrom filledFrom digestsRightFrom st r index′ last′
-      unfolding readFrom prefixesUnderFrom filled digestsRight
-      rest-join index₂ last₂ st₂ es (Whole st′) index′ last′ gap rest =
+      rest-join : (index₂ row₂ last₂ : List ℕ) (st₂ : State) (es : List RawEntry) (r : Walked) (index′ row′ last′ : List ℕ)
+          → GapSays s index₁ row last₁ level (e .link) st₁ (Whole st₂) index₂ row₂ last₂
+          → Outcome s index₂ row₂ last₂ (n - (i + 1)) (readFrom (readTree (deepest - suc level)) es (drop (st₂ .next) s))
+          (slotsFrom level pg (e .end) (st₂ .next) (keyAt s e (so-far .before))) (chainsFrom (st₂ .count) (st₂ .next)) (prefixesRightFrom (keyAt s e (so-far .before))) filledFrom st₂ r index′ row′ last′
+          → Outcome s index row last (n - i) (readFrom (readTree (deepest - suc level)) (entryAt s e ∷ es) (drop (st .next) s))
+          (slotsFrom level pg at (st .next) (so-far .before)) (chainsFrom (st .count) (st .next)) (prefixesRightFrom (so-far .before)) filledFrom st r index′ row′ last′
+      unfolding readFrom prefixesRight filled
+      rest-join index₂ row₂ last₂ st₂ es (Whole st′) index′ row′ last′ gap rest =
           let g : Gap Spelt (List ℕ) = gap .what in
-          let (link, below) = gap-ends s index₁ last₁ top level (e .link) st₁ st₂ index₂ last₂ slice gap in
+          let (link, below) = gap-ends s index₁ row last₁ level (e .link) st₁ st₂ index₂ row₂ last₂ slice gap in
           let parts = entry-slots level pg at (st .next) (so-far .before) (speltAt s e) g (rest .what) (e .end) (st₁ .next) (st₂ .next)
           (entry-ends s at e slice here g link) (onward-record .0) below in
+          let counted : st₂ .count ≡ st₁ .count + length (itemsUnder g) = omega (arith, gap .moved .count, slots-count (level + 1) (st₁ .next) g) in
+          let pages = entry-chains (st .count) (st .next) (speltAt s e) g (rest .what) (st₁ .count) (st₂ .count) (st₁ .next) (st₂ .next)
+          (onward-record .1) counted (onward-record .0) below in
           let size = length-append (slotsUnder (level + 1) (st₁ .next) g) (slotsFrom level pg (e .end) (st₂ .next) (keyAt s e (so-far .before)) (rest .what)) in
+          let number = length-append (chainsUnder (st₁ .count) (st₁ .next) [] g) (chainsFrom (st₂ .count) (st₂ .next) (rest .what)) in
           record {
             what = entry (speltAt s e) g (rest .what);
             reads = rw (← onward-record .0, gap .reads, rest .reads);
             few = rw parts (omega (arith, onward-record, gap .few, rest .few, size));
-            moved = rw parts (moved-seq (record-moved s (so-far .within) (e .end - 32)) (moved-seq (gap .moved) (rest .moved)));
+            fewChains = rw pages (omega (arith, onward-record, gap .fewChains, rest .fewChains, number));
+            moved = rw (parts, pages) (moved-seq (record-moved s (so-far .within) (e .end - 32)) (moved-seq (gap .moved) (rest .moved)));
           }
-      rest-join index₂ last₂ st₂ es (Stopped stop) index′ last′ gap rest = rw (← onward-record .0, gap .reads) (then-stops _ stop rest)
+      rest-join index₂ row₂ last₂ st₂ es (Stopped stop) index′ row′ last′ gap rest = rw (← onward-record .0, gap .reads) (then-stops _ stop rest)
 
       -- the first of the entries left
       first-left : {C : Type 0} (es : List RawEntry) (past : ℕ) → times (n - i) entryReader (drop at s) ≡ read es (drop past s)
@@ -229,46 +261,51 @@ module _ {s index₀ last₀ : List ℕ} {top level pg first n : ℕ} {st₀ : S
       first-left es past q =
           times-more entryReader (n - (i + 1)) (drop at s) (drop past s) (drop (e .end) s) es (entryAt s e) (here .whole .reads) (rw one-more at q)
 
-      onward-gap : length buffer₁ ≡ 256 → (index₂ last₂ : List ℕ) (st₂ : State)
-          → st₁ .next ≤ st₂ .next → st₂ .next ≤ length s → st₂ .count + st₁ .next ≤ st₁ .count + st₂ .next
-          → GapSays s index₁ last₁ top level (e .link) st₁ (Whole st₂) index₂ last₂
-          → Onward s index₀ last₀ top level pg first n st₀ index₂ last₂ buffer₁ size₁ st₂ (e .end) (i + 1)
+      link-within : (e .link ≡ 0 → ⊥) → e .link + 32 ≤ length s
+      link-within f = omega (arith, here .ends .link (omega (arith, f)), here .ends .value, here .whole .within)
+
+      onward-gap : length buffer₁ ≡ 256 → (index₂ row₂ last₂ : List ℕ) (st₂ : State)
+          → st₁ .next ≤ st₂ .next → st₂ .next ≤ length s → st₂ .count + st₁ .next ≤ st₁ .count + st₂ .next → st₂ .chains + st₁ .next ≤ st₁ .chains + st₂ .next
+          → GapSays s index₁ row last₁ level (e .link) st₁ (Whole st₂) index₂ row₂ last₂
+          → Onward s index₀ row₀ last₀ level pg first n st₀ index₂ row₂ last₂ buffer₁ size₁ st₂ (e .end) (i + 1)
       unfolding RestSays
-      onward-gap room index₂ last₂ st₂ h k f gap = record {
+      onward-gap room index₂ row₂ last₂ st₂ h k f c gap = record {
         turns = omega arith;
         ahead = omega (arith, onward-record, so-far .ahead);
         within = k;
         few = omega (arith, onward-record, so-far .few);
+        fewChains = omega (arith, onward-record, so-far .fewChains);
         there = here .whole .within;
         room = room;
         before = keyAt s e (so-far .before);
         holds = key-held;
-        onward = λ r index′ last′ rest.
-            so-far .onward r index′ last′ (λ es past q. first-left es past q (λ later p z.
-            rw p (rest-join index₂ last₂ st₂ later r index′ last′ gap (rest later past z))));
+        onward = λ r index′ row′ last′ rest.
+            so-far .onward r index′ row′ last′ (λ es past q. first-left es past q (λ later p z.
+            rw p (rest-join index₂ row₂ last₂ st₂ later r index′ row′ last′ gap (rest later past z))));
       }
 
       -- nothing is in the gap after it
-      pub onward-none : length buffer₁ ≡ 256 → e .link ≡ 0 → Onward s index₀ last₀ top level pg first n st₀ index₁ last₁ buffer₁ size₁ st₁ (e .end) (i + 1)
+      pub onward-none : length buffer₁ ≡ 256 → e .link ≡ 0 → Onward s index₀ row₀ last₀ level pg first n st₀ index₁ row last₁ buffer₁ size₁ st₁ (e .end) (i + 1)
       onward-none room h =
-          onward-gap room index₁ last₁ st₁ (omega arith) (omega (arith, onward-record, so-far .within)) (omega arith)
-          (gap-none s index₁ last₁ top level (e .link) st₁ h (omega (arith, onward-record, so-far .within)))
+          onward-gap room index₁ row last₁ st₁ (omega arith) (omega (arith, onward-record, so-far .within)) (omega arith) (omega arith)
+          (gap-none s index₁ row last₁ level (e .link) st₁ h (omega (arith, onward-record, so-far .within)))
 
       -- a page is in the gap after it
-      pub onward-page : length buffer₁ ≡ 256 → (e .link ≡ 0 → ⊥) → (index₂ last₂ : List ℕ) (got : Walked) (st₂ : State)
-          → PageSays s index₁ last₁ top (level + 1) (e .link) st₁ got index₂ last₂ → got ≡ Whole st₂
-          → Onward s index₀ last₀ top level pg first n st₀ index₂ last₂ buffer₁ size₁ st₂ (e .end) (i + 1)
-      onward-page room h index₂ last₂ got st₂ w q =
-          let o = says-is s index₁ last₁ top (level + 1) (e .link) st₁ index₂ last₂ w q in
-          onward-gap room index₂ last₂ st₂ (o .moved .ahead) (o .moved .within) (omega (arith, o .moved .count, o .few))
-          (gap-page s index₁ last₁ top level (e .link) st₁ (Whole st₂) index₂ last₂ h o)
+      pub onward-page : length buffer₁ ≡ 256 → (e .link ≡ 0 → ⊥) → (index₂ row₂ last₂ : List ℕ) (got : Walked) (st₂ : State)
+          → PageSays s index₁ row last₁ (level + 1) (e .link) 0 st₁ got index₂ row₂ last₂ → got ≡ Whole st₂
+          → Onward s index₀ row₀ last₀ level pg first n st₀ index₂ row₂ last₂ buffer₁ size₁ st₂ (e .end) (i + 1)
+      onward-page room h index₂ row₂ last₂ got st₂ w q =
+          let o = gap-page s index₁ row last₁ level (e .link) st₁ (Whole st₂) index₂ row₂ last₂ h (link-within h)
+          (says-is s index₁ row last₁ (level + 1) (e .link) 0 st₁ index₂ row₂ last₂ w q) in
+          onward-gap room index₂ row₂ last₂ st₂ (o .moved .ahead) (o .moved .within) (omega (arith, o .moved .count, o .few)) (omega (arith, o .moved .chainCount, o .fewChains)) o
 
       -- the walk over that page stopped
-      pub onward-stopped : (e .link ≡ 0 → ⊥) → (index₂ last₂ : List ℕ) (got : Walked) (stop : Stop)
-          → PageSays s index₁ last₁ top (level + 1) (e .link) st₁ got index₂ last₂ → got ≡ Stopped stop
-          → EntriesSay s index₀ last₀ top level pg first n st₀ (Stopped stop) index₂ last₂
+      pub onward-stopped : (e .link ≡ 0 → ⊥) → (index₂ row₂ last₂ : List ℕ) (got : Walked) (stop : Stop)
+          → PageSays s index₁ row last₁ (level + 1) (e .link) 0 st₁ got index₂ row₂ last₂ → got ≡ Stopped stop
+          → EntriesSay s index₀ row₀ last₀ level pg first n st₀ (Stopped stop) index₂ row₂ last₂
       unfolding RestSays readFrom
-      onward-stopped h index₂ last₂ got stop w q =
-          let o = says-is s index₁ last₁ top (level + 1) (e .link) st₁ index₂ last₂ w q in
-          so-far .onward (Stopped stop) index₂ last₂ (λ es past z. first-left es past z (λ later p _.
-          rw (p, ← onward-record .0) (then-stops _ stop (gap-page s index₁ last₁ top level (e .link) st₁ (Stopped stop) index₂ last₂ h o))))
+      onward-stopped h index₂ row₂ last₂ got stop w q =
+          let o = gap-page s index₁ row last₁ level (e .link) st₁ (Stopped stop) index₂ row₂ last₂ h (link-within h)
+          (says-is s index₁ row last₁ (level + 1) (e .link) 0 st₁ index₂ row₂ last₂ w q) in
+          so-far .onward (Stopped stop) index₂ row₂ last₂ (λ es past z. first-left es past z (λ later p _.
+          rw (p, ← onward-record .0) (then-stops _ stop o)))

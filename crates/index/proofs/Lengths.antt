@@ -1,15 +1,15 @@
 -- What was read ends where it would end if it were written: it takes as many bytes.
 use Prim.Native.Nat.{ℕ, zero, suc, _+_, _-_, _≤_, _<_}
-use mathlib.Core.Path.{_≡_, refl, sym, ap, _∙_}
+use mathlib.Core.Path.{_≡_, refl, sym, ap, subst, _∙_}
 use mathlib.Core.Option.{Option, none, some}
 use mathlib.Core.List.{List, [], _∷_, _++_}
 use native.Mathlib.Omega.{arith}
 use lib.ListN.{length, take, drop, length-append, length-take, length-drop}
-use lib.Seq.{take-at}
+use lib.Seq.{take-at, length-take-le}
 use Rattle.fips180.specs.Bytes.{Bytes}
 use Rattle.page.specs.Reading.{read, Reader, times}
 use Rattle.page.specs.Number.{numberBytes, array}
-use Rattle.page.specs.Page.{RawEntry, entry as entryReader}
+use Rattle.page.specs.Page.{linkHead, linkBytes, gapBytes, RawEntry, entry as entryReader, RawPage, pageBytes}
 use Rattle.page.specs.Place.{pageStart, linkAt, entryAt, EntryHere, PageHere}
 use Rattle.page.specs.declared.reading.EntryAt.{EntryAt}
 use Rattle.page.specs.declared.reading.PageAt.{PageAt}
@@ -21,6 +21,7 @@ use Rattle.tree.specs.Record.{Spelt}
 use Rattle.tree.specs.Table.{SpeltTree, linkOf, rawEntries, rawPage, bytesOfPage, table, tableUnder, readUnder, readFrom, readTree}
 use Rattle.tree.specs.Place.{lengthOfEntry, firstEntry}
 use Rattle.tree.proofs.Tables.{tree-spells}
+use Rattle.index.specs.Chain.{onlyLink}
 
 bytes-drop : (n : ℕ) (s : List ℕ) → Bytes s → Bytes (drop n s)
 bytes-drop zero s b = b
@@ -128,3 +129,35 @@ module _ (s : List ℕ) (at : ℕ) (p : PageAt) (slice : Bytes s) (here : PageHe
         read-ends start-spells s at (p .first) (p .count) slice
             (omega (arith, here .start .ahead, here .start .within)) (here .start .within) (here .start .reads),
       ))
+
+pub none-read : (l : List RawEntry) → length l ≡ 0 → l ≡ []
+none-read [] h = refl
+none-read (e ∷ l) h = absurd (omega arith)
+
+pub link-some : (s : List ℕ) (at : ℕ) → (at ≡ 0 → ⊥) → linkAt s at ≡ some (take 32 (drop at s))
+unfolding linkAt
+link-some s zero f = absurd (f refl)
+link-some s (suc before) f = refl
+
+-- ---- a page without entries, whose left link leads on
+link-length : (d : List ℕ) → length d ≡ 32 → length (onlyLink d) ≡ 47
+unfolding pageBytes numberBytes gapBytes linkBytes
+link-length d h = omega (arith, length-append linkHead d)
+
+pub link-page : (s : List ℕ) (at : ℕ) (p : PageAt) → Bytes s → PageHere s at p → p .count ≡ 0 → (p .left ≡ 0 → ⊥)
+    → (p .end ≡ at + 47) × (p .left ≡ at + 15) × (take 47 (drop at s) ≡ onlyLink (take 32 (drop (at + 15) s)))
+link-page s at p slice here none-there linked =
+    let raw : RawPage = record { entries = here .row .entries; left = linkAt s (p .left) } in
+    let low : at ≤ length s = omega (arith, here .whole .ahead, here .whole .within) in
+    let ends = read-ends page-spells s at (p .end) raw slice low (here .whole .within) (here .whole .reads) in
+    let part = read-part page-spells s at (p .end) raw slice low (here .whole .within) (here .whole .reads) in
+    let empty-row : here .row .entries ≡ [] = none-read (here .row .entries) (times-length entryReader (p .count) (drop (p .first) s) (drop (p .past) s) (here .row .entries) (here .row .reads) ∙ none-there) in
+    let digest : List ℕ = take 32 (drop (p .left) s) in
+    let label : linkAt s (p .left) ≡ some digest = link-some s (p .left) linked in
+    let last = here .left (omega (arith, linked)) in
+    let size : length digest ≡ 32 = length-take-le 32 (drop (p .left) s) (omega (arith, length-drop (p .left) s, here .whole .within)) in
+    let bytes : pageBytes raw ≡ onlyLink digest = rw (empty-row, label) in
+    let whole : p .end ≡ at + 47 = omega (arith, ends, ap length bytes, link-length digest size) in
+    let place : p .left ≡ at + 15 = omega arith in
+    let n : p .end - at ≡ 47 = omega arith in
+    (whole, place, subst (λ (q : ℕ). take 47 (drop at s) ≡ onlyLink (take 32 (drop q s))) place (ap (λ (k : ℕ). take k (drop at s)) (sym n) ∙ sym part ∙ bytes))

@@ -2,11 +2,9 @@ pub mod Buffers
 pub mod Entries
 pub mod Prefixes
 pub mod Pages
+pub mod ChainRows
 pub mod Records
-pub mod Settling
 pub mod SlotLaws
-pub mod RightTree
-pub mod Verdicts
 pub mod Standing
 pub mod Moves
 pub mod Lengths

@@ -59,7 +59,7 @@ module _ (buffer s : List ℕ) (size shares at n : ℕ) where
   key-ends h k w room =
       rw (shared-long k (take n (drop at s)) shares (omega (arith, w .size))) (sym (eq-eqb shares (length k) (omega (arith, w .size))))
 
-  pub no-room : length buffer ≤ shares → PrefixIs buffer size s shares at n true
+  pub no-room : length buffer ≤ shares → PrefixIs buffer size s shares at n false
   unfolding PrefixIs
   no-room h k w room = absurd (omega arith)
 

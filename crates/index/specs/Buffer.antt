@@ -1,5 +1,5 @@
 -- Keys in buffers: a buffer holds a key's first bytes, as many as it has room for, beside the key's length.
-use Prim.Native.Nat.{ℕ, _<_, _≤_}
+use Prim.Native.Nat.{ℕ, _<_}
 use mathlib.Core.Path.{_≡_}
 use mathlib.Core.Bool.{Bool, true, _&&_}
 use mathlib.Core.List.{List, [], _∷_, _++_}
@@ -17,7 +17,7 @@ unfoldable pub Extended : List ℕ → ℕ → List ℕ → ℕ → ℕ → ℕ 
 Extended buffer size s shares at n buffer′ size′ =
     (k : List ℕ) → HoldsKey buffer size k → HoldsKey buffer′ size′ (take shares k ++ take n (drop at s))
 
--- Whether a prefix length is the count of bytes shared with the key held.
+-- Whether a prefix length is the count of bytes shared with the key held, as far as the buffer reaches.
 unfoldable pub PrefixIs : List ℕ → ℕ → List ℕ → ℕ → ℕ → ℕ → Bool → Type 0
 PrefixIs buffer size s shares at n r =
     (k : List ℕ) → HoldsKey buffer size k → shares < length buffer → r ≡ eqb shares (shared k (take shares k ++ take n (drop at s)))

@@ -2,6 +2,7 @@
 use page::reading::EntryRead;
 use page::reading::read_entry;
 ghost use mathlib.Core.Path.{_≡_};
+ghost use mathlib.Core.Bool.{true};
 ghost use mathlib.Core.List.{List, []};
 ghost use Prim.Native.Nat.{ℕ, _+_, _≤_, _<_, min};
 ghost use lib.ListN.{length, drop};
@@ -32,11 +33,15 @@ pub fn extend(buffer: &mut [u8], size: usize, s: &[u8], shares: usize, at: usize
     keep + n
 }
 
-// Whether a prefix length is the count of bytes shared with the key held.
-fn prefix_fits(buffer: &[u8], size: usize, s: &[u8], shares: usize, at: usize, n: usize) -> bool
+// Whether a prefix length is the count of bytes shared with the key held. No prefix is right that goes past the buffer's end.
+pub fn prefix_fits(buffer: &[u8], size: usize, s: &[u8], shares: usize, at: usize, n: usize) -> bool
     requires { ⌜ at + n ≤ length (now s) ⌝ }
-    ensures { λ r. ⌜ PrefixIs (now (buffer .entry)) size (now (s .entry)) shares at n r ⌝ }
+    ensures says { λ r. ⌜ PrefixIs (now (buffer .entry)) size (now (s .entry)) shares at n r ⌝ }
+    ensures short { λ r. ⌜ (r ≡ true → shares < length (now (buffer .entry))) ⌝ }
 {
+    if buffer.len() <= shares {
+        return false;
+    }
     if size < shares {
         return false;
     }
@@ -46,9 +51,6 @@ fn prefix_fits(buffer: &[u8], size: usize, s: &[u8], shares: usize, at: usize, n
     if n == 0 {
         return true;
     }
-    if buffer.len() <= shares {
-        return true;
-    }
     if buffer[shares] == s[at] {
         return false;
     }
@@ -56,7 +58,7 @@ fn prefix_fits(buffer: &[u8], size: usize, s: &[u8], shares: usize, at: usize, n
 }
 
 // Whether the prefix lengths of the n entries from first on are right. The buffer has room for every byte that a prefix can reach.
-pub(crate) fn prefixes_fit(s: &[u8], first: usize, n: usize, buffer: &mut [u8]) -> bool
+pub fn prefixes_fit(s: &[u8], first: usize, n: usize, buffer: &mut [u8]) -> bool
     requires { ⌜ (65536 ≤ length (now buffer)) × (first ≤ length (now s)) ⌝ }
     ensures { λ r. ⌜ ((es : List RawEntry) (past : ℕ) → times n entry (drop first (now (s .entry))) ≡ read es (drop past (now (s .entry))) → r ≡ prefixesOf [] es) ⌝ }
 {

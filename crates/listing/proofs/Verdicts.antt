@@ -12,7 +12,7 @@ use Rattle.answer.specs.Answer.{numberOf}
 use Rattle.answer.specs.declared.Refusal.{Refusal}
 use Rattle.tree.specs.Record.{records}
 use Rattle.tree.specs.Judge.{refused, judge}
-use Rattle.index.specs.Walk.{AcceptedIndex}
+use Rattle.index.specs.Accepted.{AcceptedIndex}
 use Rattle.row.specs.Row.{Row, recordsOf}
 use Rattle.row.proofs.Rows.{accepted-short, accepted-row, accepted-records}
 use Rattle.promises.specs.Listing.{decimal, space, lineFeed, recordLines, listingOf, refusalLine, listingVerdict, longestInput, listing, longestListing}

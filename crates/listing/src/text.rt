@@ -1,6 +1,6 @@
 // The text for a register.
-use index::Register;
-use index::judge;
+use judge::Register;
+use judge::judge;
 use row::recall::recall;
 ghost use mathlib.Core.Path.{_≡_};
 ghost use mathlib.Core.List.{[], _∷_, _++_};
@@ -160,8 +160,9 @@ fn write_listing(s: &[u8], out: &mut [u8]) -> Written
         return add_first_line(out, b"refused ", 1);
     }
     let mut index = [0u64; 4096];
-    match judge(s, &mut index) {
-        Register::Accepted(count) => match add_first_line(out, b"records ", count) {
+    let mut chains = [0u64; 8192];
+    match judge(s, &mut index, &mut chains) {
+        Register::Accepted(count, _) => match add_first_line(out, b"records ", count) {
             Written::Text(at) => add_lines(out, at, s, &index, count),
             Written::NoRoom => Written::NoRoom,
         },

@@ -1,30 +1,36 @@
--- The pass over a whole register.
-use Prim.Native.Nat.{ℕ, zero, suc, _/_, _^_, _≤_, _<_}
+-- The passes over a whole register.
+use Prim.Native.Nat.{ℕ, zero, suc, _+_, _/_, _^_, _≤_, _<_}
 use mathlib.Core.Path.{_≡_, sym, ap, _∙_}
-use mathlib.Core.Bool.{Bool, true, not}
-use mathlib.Core.List.{List, [], _∷_, append-nil}
+use mathlib.Core.Bool.{Bool, true, false, not}
+use mathlib.Core.List.{List, [], _∷_}
 use native.Mathlib.Omega.{arith}
-use native.Mathlib.Nat.{zero-add}
 use lib.ListN.{length, take, getD}
 use lib.Seq.{length-take-le, getD-take}
+use borrow.Author.Tests.{not-true, not-false}
 use Rattle.fips180.specs.Bytes.{Bytes}
+use Rattle.fips180.specs.Hash.{sha256}
 use Rattle.key.specs.Key.{lawful}
 use Rattle.key.proofs.Laws.{layer-le}
-use Rattle.page.specs.Reading.{read}
 use Rattle.page.proofs.Tools.{and-inv}
 use Rattle.tree.specs.Record.{records}
-use Rattle.tree.specs.Table.{SpeltTree, bytesOfPage, table, tableOf, readTree, deepest}
+use Rattle.tree.specs.Table.{SpeltTree, bytesOfPage}
 use Rattle.tree.specs.Judge.{accepted, judge}
 use Rattle.tree.proofs.Tests.{all-lawful}
-use Rattle.tree.proofs.Tables.{tree-reads}
 use Rattle.tree.proofs.Accept.{accepted-table}
 use Rattle.index.specs.Slot.{Slot, slots, keyOf, lawfulSlots}
-use Rattle.index.specs.Walk.{blank, Indexes, AcceptedIndex}
+use Rattle.index.specs.Walk.{blank, HoldsWords, Indexes}
+use Rattle.index.specs.Accepted.{AcceptedIndex, ChainRow}
+use Rattle.index.specs.Chain.{Chain, chains as pageChains}
 use Rattle.index.proofs.SlotLaws.{slots-length, slots-lawful}
-use Rattle.promises.specs.Pages.{known}
-use Rattle.opened.specs.Passing.{openPages, Room, Says, PagePassed, OpenedStaged}
-use Rattle.opened.specs.declared.pass.Passed.{Passed}
-use Rattle.opened.proofs.OpenFlags.{flags-length, opened-count}
+use Rattle.promises.specs.Pages.{pagesOf, known as knownPage}
+use Rattle.opened.specs.Known.{isAmong, digestsOf, pagesIn}
+use Rattle.opened.specs.Passing.{flags, openPages, marked, Room, AllMarked, Staging, SomeStaging, KeptStaged, OpenedStaged}
+use Rattle.opened.specs.declared.pass.Opening.{Opening}
+use Rattle.opened.proofs.ChainRows.{accepted-filled}
+use Rattle.opened.proofs.OpenFlags.{closed-flags, closed-pages, opened-count}
+use Rattle.opened.proofs.Visits.{Spans, root-spans}
+use Rattle.opened.proofs.Digests.{known-labels}
+use Rattle.opened.proofs.Parts.{row-chains}
 
 -- ---- the words of the index
 lawful-at : (xs : List Slot) → lawfulSlots xs ≡ true → (i : ℕ) → i < length xs → lawful (keyOf (getD xs i blank)) ≡ true
@@ -36,7 +42,7 @@ lawful-at (x ∷ xs) h (suc i) k = lawful-at xs (and-inv (lawful (keyOf x)) h .1
 module _ (u index : List ℕ) (count : ℕ) (bytes : Bytes u) (w : AcceptedIndex u index count) (room : count ≤ length index) where
   -- they are below 2^60, since layers are small
   word-small : (i : ℕ) → i < count → getD index i 0 < 2 ^ 60
-  unfolding Indexes
+  unfolding HoldsWords
   word-small i h =
       let t : SpeltTree = w .tree in
       let within : i < length (slots 0 0 t) = omega (arith, w .size, slots-length 0 0 t) in
@@ -50,31 +56,73 @@ module _ (u index : List ℕ) (count : ℕ) (bytes : Bytes u) (w : AcceptedIndex
       let n = length-take-le count index room in
       record { fits = omega arith; small = λ i k. rw (getD-take count index i 0 (omega arith)) (word-small i (omega arith)) }
 
--- ---- what the pass says of a register that is accepted
-abbrev start : Passed
-start = record { next = 0; records = 0; opened = 0; staged = 0 }
+-- ---- two registers that are accepted
+module _ (s known : List ℕ) (n : ℕ) (u chains index : List ℕ) (m count : ℕ) (bytes : Bytes s) (others : Bytes u) (w : ChainRow s known n) (x : ChainRow u chains m)
+    (y : AcceptedIndex u index count) (room : count ≤ length index) (marks : List ℕ) (opens : Bool)
+    (all : (t v : SpeltTree) → judge s ≡ accepted t → judge u ≡ accepted v → AllMarked t v marks opens) where
+  abbrev t : SpeltTree
+  t = w .tree
 
-accepted-reads : (u : List ℕ) (v : SpeltTree) → Bytes u → judge u ≡ accepted v → readTree deepest u ≡ read v []
-unfolding tableOf
-accepted-reads u v bytes judged =
-    let a = accepted-table u bytes v judged in
-    let e : u ≡ table v = a .written ∙ ap table (sym (a .spells)) in
-    ap (readTree deepest) (e ∙ sym (append-nil (table v))) ∙ tree-reads deepest v [] (a .good)
+  abbrev v : SpeltTree
+  v = x .tree
 
-pub pass-staged : (first : List (List ℕ)) (u index : List ℕ) (count : ℕ) (row : List ℕ) (isOpen : Bool) (r : Passed) (row′ : List ℕ)
-    → Bytes u → AcceptedIndex u index count → count ≤ length index → (v : SpeltTree) → judge u ≡ accepted v
-    → isOpen ≡ not (known first (bytesOfPage v)) → PagePassed first u (take count index) row isOpen start r row′
-    → OpenedStaged first v index count (record { staged = r .staged; opened = r .opened }) row′
-unfolding Says
-pass-staged first u index count row isOpen r row′ bytes w room v judged e passed =
-    let same : accepted (w .tree) ≡ accepted v = sym (w .judged) ∙ judged in
-    let t : w .tree ≡ v = cc in
-    let n = length-take-le count index room in
-    let k : length (records (w .tree)) ≡ length (records v) = ap (λ (x : SpeltTree). length (records x)) t in
-    let (_, gone) = passed .says deepest v [] (accepted-reads u v bytes judged) (accepted-table u bytes v judged .digests)
-    (omega (arith, w .size, flags-length first isOpen v)) in
-    record {
-      opened = gone .opened ∙ zero-add (openPages first isOpen v) ∙ rw e (sym (opened-count first v));
-      fits = omega (arith, passed .standing .counted .records, passed .standing .counted .staged);
-      staged = gone .staged ∙ rw e;
-    }
+  abbrev first : List (List ℕ)
+  first = pagesOf t
+
+  same : (p : List ℕ) → knownPage first p ≡ isAmong (digestsOf t) (sha256 p)
+  same = known-labels t (accepted-table s bytes t (w .judged) .digests) (accepted-filled s bytes t (w .judged))
+
+  abbrev taken : AllMarked t v marks opens
+  taken = all t v (w .judged) (x .judged)
+
+  root-known : knownPage first (bytesOfPage v) ≡ isAmong (digestsOf t) (sha256 (bytesOfPage v))
+  root-known = same (bytesOfPage v)
+
+  is-open : not (knownPage first (bytesOfPage v)) ≡ opens
+  is-open = rw root-known (sym (taken .isOpen))
+
+  abbrev spans : (k : ℕ) × Spans (digestsOf t) 0 (length (records v)) (pageChains 0 0 [] v) (flags first true v) k × (1 + k ≡ openPages first true v)
+  spans = root-spans first (digestsOf t) same v (accepted-table u others v (x .judged) .digests) (accepted-filled u others v (x .judged))
+
+  words-all : length (take count index) ≡ length (records v)
+  words-all =
+      let e : accepted (y .tree) ≡ accepted v = sym (y .judged) ∙ x .judged in
+      let f : y .tree ≡ v = cc in
+      length-take-le count index room ∙ y .size ∙ ap (λ (z : SpeltTree). length (records z)) f
+
+  staging : opens ≡ true → Staging u chains m marks (take count index) (digestsOf t) (pageChains 0 0 [] v)
+  staging h = record { chained = row-chains u chains m others x; marked = taken .marks h; ordered = rw words-all (spans .1 .ordered) }
+
+  pub may-stage : not opens ≡ false → SomeStaging chains m marks (take count index)
+  may-stage h = record { bytes = u; digests = digestsOf t; list = pageChains 0 0 [] v; staging = staging (not-false opens h) }
+
+  -- the second's root is known, or it is opened
+  closed-staged : opens ≡ false → (row : List ℕ) → OpenedStaged first v index count (record { staged = 0; opened = 0 }) row
+  closed-staged h row = record {
+    opened = sym (opened-count first v ∙ rw (is-open, h) (closed-pages first v));
+    fits = omega arith;
+    staged = sym (rw (is-open, h) (closed-flags first v (marked (take count index))));
+  }
+
+  open-staged : opens ≡ true → (row : List ℕ) (r : Opening) → KeptStaged (take count index) (digestsOf t) (pageChains 0 0 [] v) row r → OpenedStaged first v index count r row
+  open-staged h row r k = record {
+    opened = k .opened ∙ rw (spans .1 .opened) (spans .2 ∙ sym (opened-count first v ∙ rw (is-open, h)));
+    fits = omega (arith, k .fits, length-take-le count index room);
+    staged = k .staged ∙ rw (words-all, is-open, h, spans .1 .flags);
+  }
+
+  retell : (r : Opening) (row : List ℕ) → OpenedStaged first v index count r row → (z : SpeltTree) → judge u ≡ accepted z → OpenedStaged (pagesIn (judge s)) z index count r row
+  unfolding pagesIn
+  retell r row o z h =
+      let e : accepted v ≡ accepted z = sym (x .judged) ∙ h in
+      let f : v ≡ z = cc in
+      rw (w .judged, ← f) o
+
+  pub none-opened : not opens ≡ true → (row : List ℕ) (z : SpeltTree) → judge u ≡ accepted z → OpenedStaged (pagesIn (judge s)) z index count (record { staged = 0; opened = 0 }) row
+  none-opened h row = retell (record { staged = 0; opened = 0 }) row (closed-staged (not-true opens h) row)
+
+  pub some-opened : not opens ≡ false → (row : List ℕ) (r : Opening)
+      → ((u : List ℕ) (ds : List (List ℕ)) (cs : List Chain) → Staging u chains m marks (take count index) ds cs → KeptStaged (take count index) ds cs row r)
+      → (z : SpeltTree) → judge u ≡ accepted z → OpenedStaged (pagesIn (judge s)) z index count r row
+  some-opened h row r k =
+      retell r row (open-staged (not-false opens h) row r (k u (digestsOf t) (pageChains 0 0 [] v) (staging (not-false opens h))))

@@ -1,2 +1,4 @@
+pub mod Rows
 pub mod Known
+pub mod Visits
 pub mod Passing

@@ -1,17 +1,19 @@
--- What the pass over the second register's pages says.
-use Prim.Native.Nat.{ℕ, _+_, _^_, _≤_, _<_}
+-- What the passes over the second register's chains say.
+use Prim.Native.Nat.{ℕ, _+_, _-_, _^_, _≤_, _<_}
 use mathlib.Core.Path.{_≡_}
 use mathlib.Core.Bool.{Bool, true, false, cond, not, _&&_}
 use mathlib.Core.List.{List, [], _∷_, _++_, map}
 use lib.ListN.{length, take, drop, getD}
-use Rattle.page.specs.Reading.{Read, read, times}
-use Rattle.page.specs.Page.{RawEntry, entry as entryReader}
+use Rattle.fips180.specs.Hash.{sha256}
 use Rattle.tree.specs.Tree.{page, Gap, empty, under, Entries, end, entry}
 use Rattle.tree.specs.Record.{Spelt}
-use Rattle.tree.specs.Table.{SpeltTree, bytesOfPage, readFrom, readTree}
-use Rattle.tree.specs.Judge.{digestsRight, digestsRightFrom, accepted, judge}
+use Rattle.tree.specs.Table.{SpeltTree, bytesOfPage}
+use Rattle.index.specs.Chain.{Chain, chains}
 use Rattle.promises.specs.Pages.{known, openedPages}
-use Rattle.opened.specs.declared.pass.Passed.{Passed}
+use Rattle.opened.specs.Rows.{Chained, labelsOf, LabelsStand}
+use Rattle.opened.specs.Known.{isAmong, Linked, digestsIn, digestsOf}
+use Rattle.opened.specs.Visits.{before, visited, openIn, kept, Ordered, MarksAt}
+use Rattle.opened.specs.declared.pass.Part.{Part}
 use Rattle.opened.specs.declared.pass.Opening.{Opening}
 
 -- Whether each record stands in an opened page, in key order; `isOpen` says whether the first page is opened.
@@ -51,78 +53,72 @@ pick (false ∷ bs) (a ∷ l) = pick bs l
 abbrev pub marked : List ℕ → List ℕ
 marked words = map (λ (w : ℕ). w + 2 ^ 60) words
 
--- ---- what holds whatever the bytes are
 -- The words of the index are below 2^60, and the row has room for all of them.
 pub record Room (index row : List ℕ) : Type 0 where
   pub fits : length index ≤ length row
   pub small : (i : ℕ) → i < length index → getD index i 0 < 2 ^ 60
 
--- No more records are passed than the index has, and no more are staged than passed.
-pub record Counted (index : List ℕ) (st : Passed) : Type 0 where
-  pub records : st .records ≤ length index
-  pub staged : st .staged ≤ st .records
+-- ---- the passes
+-- How many labels of a chain stand before one that is known, among the first `most`; the table has the digests.
+abbrev pub OpenLabels : List ℕ → List ℕ → List ℕ → List ℕ → List ℕ → ℕ → ℕ → ℕ → Type 0
+OpenLabels s heads words root u w most r =
+    (labels : List (List ℕ)) → LabelsStand u w labels → (count : ℕ) → Linked s heads words count
+    → r ≡ before (root ∷ digestsIn s (take count words)) (take most labels)
 
--- The pass stands in the bytes of u, and no more pages are opened than it has passed bytes.
-pub record Standing (u index : List ℕ) (st : Passed) : Type 0 where
-  pub within : st .next ≤ length u
-  pub few : st .opened ≤ st .next
-  pub counted : Counted index st
+-- The marks are those of visited chains, for some digests.
+pub record Marked (u row : List ℕ) (m : ℕ) (marks : List ℕ) : Type 0 where
+  pub digests : List (List ℕ)
+  pub list : List Chain
+  pub chained : Chained u row m list
+  pub marked : MarksAt digests marks 0 0 list
 
--- ---- what the pass does
--- From st the pass came to r over records with these flags and over k opened pages: the words of those whose flag is set were added to the
--- row.
-pub record Gone (index row : List ℕ) (st r : Passed) (bs : List Bool) (k : ℕ) (row′ : List ℕ) : Type 0 where
-  pub records : r .records ≡ st .records + length bs
-  pub opened : r .opened ≡ st .opened + k
-  pub staged : take (r .staged) row′ ≡ take (st .staged) row ++ pick bs (drop (st .records) (marked index))
+-- The marks were lowered to the root's digest and those of the table.
+abbrev pub Lowered : List ℕ → List ℕ → List ℕ → List ℕ → List ℕ → List ℕ → ℕ → List ℕ → List ℕ → Type 0
+Lowered s heads words root u row m marks marks′ =
+    (digests : List (List ℕ)) (cs : List Chain) → Chained u row m cs → MarksAt digests marks 0 0 cs
+    → (count : ℕ) → Linked s heads words count → MarksAt (digests ++ (root ∷ digestsIn s (take count words))) marks′ 0 0 cs
 
--- One record was passed, in a page that is opened or not.
-pub record OnePassed (index row : List ℕ) (isOpen : Bool) (st r : Passed) (row′ : List ℕ) : Type 0 where
-  pub next : r .next ≡ st .next
-  pub opened : r .opened ≡ st .opened
-  pub counted : Counted index r
-  pub gone : st .records < length index → Gone index row st r (isOpen ∷ []) 0 row′
+-- The labels of the chains from the start-th to before the next one were taken in. The second register's root, whose digest is `top`, is
+-- opened as far as they say.
+pub record TookPart (s known : List ℕ) (n start : ℕ) (root u row : List ℕ) (m : ℕ) (top marks marks′ : List ℕ) (r : Part) : Type 0 where
+  pub ahead : start ≤ r .next
+  pub most : r .next ≤ n
+  pub onward : start < n → start < r .next
+  pub part : List (List ℕ)
+  pub labels : (cs : List Chain) → Chained s known n cs → labelsOf (take start cs) ++ part ≡ labelsOf (take (r .next) cs)
+  pub lowered : (digests : List (List ℕ)) (cs : List Chain) → Chained u row m cs → MarksAt digests marks 0 0 cs → MarksAt (digests ++ (root ∷ part)) marks′ 0 0 cs
+  pub isOpen : r .opens ≡ not (isAmong (root ∷ part) top)
 
--- A page was entered, opened or not; it ends before `end`.
-pub record Entered (end : ℕ) (isOpen : Bool) (st r : Passed) : Type 0 where
-  pub next : r .next ≡ end
-  pub records : r .records ≡ st .records
-  pub opened : r .opened ≡ st .opened + cond isOpen 1 0
-  pub staged : r .staged ≡ st .staged
+-- All digests of the first tree were taken in, unless the second's root is known.
+pub record AllMarked (t v : SpeltTree) (marks′ : List ℕ) (r : Bool) : Type 0 where
+  pub isOpen : r ≡ not (isAmong (digestsOf t) (sha256 (bytesOfPage v)))
+  pub marks : r ≡ true → MarksAt (digestsOf t) marks′ 0 0 (chains 0 0 [] v)
 
--- What was read by p from the bytes of u is a T, with right digests, and the index has room for its records: so the pass went over it.
-unfoldable pub Says : {T : Type 0} → List ℕ → List ℕ → List ℕ → Read T → (T → Bool) → (T → List Bool) → (T → ℕ) → Passed → Passed → List ℕ → Type 0
-Says {T} u index row p right flagsOf pagesOf st r row′ =
-    (t : T) (rest : List ℕ) → p ≡ read t rest → right t ≡ true → st .records + length (flagsOf t) ≤ length index
-    → (rest ≡ drop (r .next) u) × Gone index row st r (flagsOf t) (pagesOf t) row′
+-- The words from one place of the index to another were added to the row.
+pub record Copied (index row : List ℕ) (from to at : ℕ) (row′ : List ℕ) (r : ℕ) : Type 0 where
+  pub end : r ≡ at + (to - from)
+  pub words : take r row′ ≡ take at row ++ take (to - from) (drop from (marked index))
 
--- The pass over the page at st .next and over all pages below it.
-abbrev pub PageSays : List (List ℕ) → List ℕ → List ℕ → List ℕ → Bool → Passed → Passed → List ℕ → Type 0
-PageSays first u index row isOpen st r row′ =
-    (depth : ℕ) → Says u index row (readTree depth (drop (st .next) u)) digestsRight (flags first isOpen) (openPages first isOpen) st r row′
+-- All that the last pass needs: marks of chains, whose records stand in order among those of the index.
+pub record Staging (u row : List ℕ) (m : ℕ) (marks index : List ℕ) (digests : List (List ℕ)) (cs : List Chain) : Type 0 where
+  pub chained : Chained u row m cs
+  pub marked : MarksAt digests marks 0 0 cs
+  pub ordered : Ordered digests 0 (length index) (visited digests 0 cs)
 
--- The pass over the n entries from `at` on and over all pages below them.
-abbrev pub EntriesSay : List (List ℕ) → List ℕ → List ℕ → List ℕ → Bool → ℕ → ℕ → Passed → Passed → List ℕ → Type 0
-EntriesSay first u index row isOpen at n st r row′ =
-    (depth : ℕ) (es : List RawEntry) (past : ℕ) → times n entryReader (drop at u) ≡ read es (drop past u)
-    → Says u index row (readFrom (readTree depth) es (drop (st .next) u)) digestsRightFrom (flagsFrom first isOpen) (openPagesFrom first isOpen) st r row′
+-- The same for some register, some digests and some chains.
+pub record SomeStaging (row : List ℕ) (m : ℕ) (marks index : List ℕ) : Type 0 where
+  pub bytes : List ℕ
+  pub digests : List (List ℕ)
+  pub list : List Chain
+  pub staging : Staging bytes row m marks index digests list
 
-pub record PagePassed (first : List (List ℕ)) (u index row : List ℕ) (isOpen : Bool) (st r : Passed) (row′ : List ℕ) : Type 0 where
-  pub ahead : st .next ≤ r .next
-  pub standing : Standing u index r
-  pub says : PageSays first u index row isOpen st r row′
-
-pub record EntriesPassed (first : List (List ℕ)) (u index row : List ℕ) (isOpen : Bool) (at n : ℕ) (st r : Passed) (row′ : List ℕ) : Type 0 where
-  pub ahead : st .next ≤ r .next
-  pub standing : Standing u index r
-  pub says : EntriesSay first u index row isOpen at n st r row′
+-- The opened pages of visited chains were counted, with the root, and the words of the records that are kept were staged.
+pub record KeptStaged (index : List ℕ) (digests : List (List ℕ)) (cs : List Chain) (row′ : List ℕ) (r : Opening) : Type 0 where
+  pub opened : r .opened ≡ 1 + openIn digests (visited digests 0 cs)
+  pub fits : r .staged ≤ length index
+  pub staged : take (r .staged) row′ ≡ pick (kept digests 0 (length index) (visited digests 0 cs)) (marked index)
 
 -- ---- the whole register
--- A byte string that is accepted.
-pub record IsAccepted (s : List ℕ) : Type 0 where
-  pub tree : SpeltTree
-  pub judged : judge s ≡ accepted tree
-
 -- The first `count` words are those of the records of v, in key order. The row begins with those of the records in opened pages, 2^60 added.
 pub record OpenedStaged (first : List (List ℕ)) (v : SpeltTree) (index : List ℕ) (count : ℕ) (r : Opening) (row′ : List ℕ) : Type 0 where
   pub opened : r .opened ≡ length (openedPages first v)

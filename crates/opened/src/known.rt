@@ -1,27 +1,17 @@
-// The digests of the first register's pages: the root's, and those in its page links. A table of the links finds a digest by its first
-// bits, so that a page is not compared with every page.
-use page::reading::EntryRead;
+// The digests of the first register's pages: the root's, and the labels of its chains. A table of labels finds a digest by its first bits,
+// so that a page is not compared with every page.
 use page::reading::PageRead;
-use page::reading::read_entry;
 use page::reading::read_page;
 use sha256::digest_of;
 ghost use mathlib.Core.Path.{_≡_};
-ghost use mathlib.Core.List.{List, []};
-ghost use Prim.Native.Nat.{ℕ, _+_, _^_, _≤_, _<_};
+ghost use Prim.Native.Nat.{_+_, _*_, _^_, _≤_, _<_};
 ghost use lib.ListN.{length, take, drop};
 ghost use Rattle.fips180.specs.Hash.{sha256, zeros};
-ghost use Rattle.page.specs.Place.{linkAt};
 ghost use Rattle.tree.specs.Table.{SpeltTree, bytesOfPage};
 ghost use Rattle.tree.specs.Judge.{equal, accepted, judge};
-ghost use Rattle.promises.specs.Pages.{known};
-ghost use Rattle.opened.specs.Known.{linkOr, isAmong, firstBits, LinkFits, Linked, Tabled, AddedLink, AddedLinks, InEntries, InPages, InTable, Knows, pagesIn};
-
-// The root's digest, how many links are in the table, and the place of the first page whose links are not.
-pub struct First {
-    pub root: [u8; 32],
-    pub count: usize,
-    pub stop: usize,
-}
+ghost use Rattle.index.specs.Word.{pageIn, aboveIn};
+ghost use Rattle.opened.specs.Rows.{SomeChains, labelCount, labelPlace, SomeLabels};
+ghost use Rattle.opened.specs.Known.{firstBits, LinkFits, Linked, Tabled, AddedLink, AddedChain, Filled, InTable, IsKnown};
 
 // The first twelve bits of a digest.
 fn first_bits(digest: &[u8]) -> usize
@@ -46,17 +36,6 @@ fn same_at(s: &[u8], at: usize, digest: &[u8]) -> bool
     true
 }
 
-// Whether the digest of the link at a place is this; place 0 is no link.
-fn is_link(s: &[u8], at: usize, digest: &[u8]) -> bool
-    requires { ⌜ LinkFits (now s) at × (length (now digest) ≡ 32) ⌝ }
-    ensures { λ r. ⌜ r ≡ isAmong (linkOr (linkAt (now (s .entry)) at) []) (now (digest .entry)) ⌝ }
-{
-    if at == 0 {
-        return false;
-    }
-    same_at(s, at, digest)
-}
-
 // One link more, by the place of its digest; place 0 is no link. The new count.
 fn add_link(s: &[u8], at: usize, heads: &mut [u32], words: &mut [u64], count: usize) -> usize
     requires { ⌜ Linked (now s) (now heads) (now words) count × (count < length (now words)) × LinkFits (now s) at ⌝ }
@@ -71,34 +50,79 @@ fn add_link(s: &[u8], at: usize, heads: &mut [u32], words: &mut [u64], count: us
     count + 1
 }
 
-// The links of the n entries from first on.
-fn add_links(
-    s: &[u8],
-    first: usize,
-    n: usize,
-    heads: &mut [u32],
-    words: &mut [u64],
-    count: usize,
-) -> usize
-    requires { ⌜ Linked (now s) (now heads) (now words) count × (count + n ≤ length (now words)) ⌝ }
-    ensures { λ r. ⌜ AddedLinks (now (s .entry)) (now (words .entry)) first n count (now (heads .exit)) (now (words .exit)) r ⌝ }
+// How many labels a chain has, by its first word: none where no link leads to it.
+pub fn label_count(word: u64) -> usize
+    ensures { λ r. ⌜ r ≡ labelCount word ⌝ }
 {
+    if word / 0x100_0000 % 0x100_0000 == 0 {
+        return 0;
+    }
+    (word / 0x1_0000_0000_0000) as usize + 1
+}
+
+// The place of the k-th label of a chain, by its first word.
+pub fn label_place(word: u64, k: usize) -> usize
+    requires { ⌜ (k ≤ aboveIn word) × (47 * aboveIn word ≤ pageIn word) ⌝ }
+    ensures { λ r. ⌜ r ≡ labelPlace word k ⌝ }
+{
+    if k == 0 {
+        return (word / 0x100_0000 % 0x100_0000) as usize;
+    }
+    let page = (word % 0x100_0000) as usize;
+    let above = (word / 0x1_0000_0000_0000) as usize;
+    page - 47 * above + 47 * (k - 1) + 15
+}
+
+// The labels of a chain, by its first word, into the table. The new count.
+fn add_chain(s: &[u8], word: u64, heads: &mut [u32], words: &mut [u64], count: usize) -> usize
+    requires { ⌜ Linked (now s) (now heads) (now words) count × (count + labelCount word ≤ length (now words)) × SomeLabels (now s) word ⌝ }
+    ensures { λ r. ⌜ AddedChain (now (s .entry)) (now (words .entry)) word count (now (heads .exit)) (now (words .exit)) r ⌝ }
+{
+    let n = label_count(word);
     let mut total = count;
-    let mut at = first;
-    let mut i = 0;
-    while i < n {
-        match read_entry(s, at) {
-            EntryRead::Entry(e) => {
-                total = add_link(s, e.link, heads, words, total);
-                at = e.end;
-            }
-            EntryRead::EntryStop(_) => {
-                return total;
-            }
-        }
-        i += 1;
+    let mut k = 0;
+    while k < n {
+        total = add_link(s, label_place(word, k), heads, words, total);
+        k += 1;
     }
     total
+}
+
+// An empty table has no heads.
+fn clear(heads: &mut [u32])
+    ensures { λ _. ⌜ now (heads .exit) ≡ zeros (length (now (heads .entry))) ⌝ }
+{
+    let mut i = 0;
+    while i < heads.len() {
+        heads[i] = 0;
+        i += 1;
+    }
+}
+
+// The labels of the chains from the start-th on into an empty table, as many whole chains as there is room for. The first that is left.
+pub fn fill(
+    s: &[u8],
+    known: &[u64],
+    n: usize,
+    start: usize,
+    heads: &mut [u32],
+    words: &mut [u64],
+) -> usize
+    requires { ⌜ SomeChains (now s) (now known) n × (start ≤ n) × (length (now heads) ≡ 4096) × (length (now words) ≡ 4096) × (length (now s) < 2 ^ 32) ⌝ }
+    ensures { λ r. ⌜ Filled (now (s .entry)) (now (known .entry)) n start (now (heads .exit)) (now (words .exit)) r ⌝ }
+{
+    clear(heads);
+    let mut count = 0;
+    let mut i = start;
+    while i < n {
+        let word = known[2 * i];
+        if words.len() - count < label_count(word) {
+            return i;
+        }
+        count = add_chain(s, word, heads, words, count);
+        i += 1;
+    }
+    i
 }
 
 // The digest of the first page.
@@ -111,44 +135,6 @@ pub fn root_digest(s: &[u8]) -> [u8; 32]
             digest_of(&s[..end])
         }
         PageRead::PageStop(_) => [0u8; 32],
-    }
-}
-
-// The links of all pages of s, page by page, as many pages as the table has room for.
-pub fn gather(s: &[u8], heads: &mut [u32], words: &mut [u64]) -> First
-    requires { ⌜ (now heads ≡ zeros 4096) × (length (now words) ≡ 8192) × (length (now s) < 2 ^ 32) ⌝ }
-    ensures { λ r. ⌜ ((t : SpeltTree) → judge (now (s .entry)) ≡ accepted t → Knows (now (s .entry)) (now (heads .exit)) (now (words .exit)) r) ⌝ }
-{
-    let root = root_digest(s);
-    let mut count = 0;
-    let mut at = 0;
-    while at < s.len() {
-        match read_page(s, at) {
-            PageRead::Page(p) => {
-                if words.len() - count <= p.count {
-                    return First {
-                        root,
-                        count,
-                        stop: at,
-                    };
-                }
-                let some = add_link(s, p.left, heads, words, count);
-                count = add_links(s, p.first, p.count, heads, words, some);
-                at = p.end;
-            }
-            PageRead::PageStop(_) => {
-                return First {
-                    root,
-                    count,
-                    stop: at,
-                };
-            }
-        }
-    }
-    First {
-        root,
-        count,
-        stop: at,
     }
 }
 
@@ -168,66 +154,13 @@ fn in_table(s: &[u8], heads: &[u32], words: &[u64], digest: &[u8]) -> bool
     false
 }
 
-// Whether a digest is among the links of the n entries from first on.
-fn in_entries(s: &[u8], first: usize, n: usize, digest: &[u8]) -> bool
-    requires { ⌜ length (now digest) ≡ 32 ⌝ }
-    ensures { λ r. ⌜ InEntries (now (s .entry)) first n (now (digest .entry)) r ⌝ }
+// Whether a digest is the root's or among the links in the table.
+pub fn is_known(s: &[u8], heads: &[u32], words: &[u64], root: &[u8], digest: &[u8]) -> bool
+    requires { ⌜ Tabled (now s) (now heads) (now words) × (length (now root) ≡ 32) × (length (now digest) ≡ 32) ⌝ }
+    ensures { λ r. ⌜ IsKnown (now (s .entry)) (now (heads .entry)) (now (words .entry)) (now (root .entry)) (now (digest .entry)) r ⌝ }
 {
-    let mut at = first;
-    let mut i = 0;
-    while i < n {
-        match read_entry(s, at) {
-            EntryRead::Entry(e) => {
-                if is_link(s, e.link, digest) {
-                    return true;
-                }
-                at = e.end;
-            }
-            EntryRead::EntryStop(_) => {
-                return false;
-            }
-        }
-        i += 1;
-    }
-    false
-}
-
-// Whether a digest is among the links of the pages from a place on.
-fn in_pages(s: &[u8], from: usize, digest: &[u8]) -> bool
-    requires { ⌜ length (now digest) ≡ 32 ⌝ }
-    ensures { λ r. ⌜ InPages (now (s .entry)) from (now (digest .entry)) r ⌝ }
-{
-    let mut at = from;
-    while at < s.len() {
-        match read_page(s, at) {
-            PageRead::Page(p) => {
-                if is_link(s, p.left, digest) {
-                    return true;
-                }
-                if in_entries(s, p.first, p.count, digest) {
-                    return true;
-                }
-                at = p.end;
-            }
-            PageRead::PageStop(_) => {
-                return false;
-            }
-        }
-    }
-    false
-}
-
-// Whether a page is known, by its digest.
-pub fn is_known(s: &[u8], heads: &[u32], words: &[u64], f: First, digest: &[u8]) -> bool
-    requires { ⌜ Knows (now s) (now heads) (now words) f × (length (now digest) ≡ 32) ⌝ }
-    ensures { λ r. ⌜ ((p : List ℕ) → now (digest .entry) ≡ sha256 p → r ≡ known (pagesIn (judge (now (s .entry)))) p) ⌝ }
-{
-    let root = f.root;
-    if same_at(&root, 0, digest) {
+    if same_at(root, 0, digest) {
         return true;
     }
-    if in_table(s, heads, words, digest) {
-        return true;
-    }
-    in_pages(s, f.stop, digest)
+    in_table(s, heads, words, digest)
 }

@@ -1,173 +1,182 @@
-// The pass over the second register's pages: it counts the opened ones and stages the words of their records.
-use crate::known::First;
-use crate::known::gather;
+// The passes over the second register's chains: they mark the known pages, count the opened ones and stage the words of their records.
+use crate::known::fill;
 use crate::known::is_known;
+use crate::known::label_count;
+use crate::known::label_place;
 use crate::known::root_digest;
-use page::reading::EntryRead;
-use page::reading::PageRead;
-use page::reading::read_entry;
-use page::reading::read_page;
 ghost use mathlib.Core.Path.{_≡_};
-ghost use mathlib.Core.Bool.{not, _&&_};
+ghost use mathlib.Core.Bool.{cond};
 ghost use mathlib.Core.List.{List};
-ghost use Prim.Native.Nat.{ℕ, _+_, _≤_, _<_};
-ghost use lib.ListN.{length, take, drop};
-ghost use Rattle.fips180.specs.Hash.{sha256};
+ghost use Prim.Native.Nat.{ℕ, _+_, _*_, _^_, _≤_, _<_};
+ghost use lib.ListN.{length, getD};
 ghost use Rattle.tree.specs.Table.{SpeltTree};
 ghost use Rattle.tree.specs.Judge.{accepted, judge};
-ghost use Rattle.index.specs.Walk.{AcceptedIndex};
-ghost use Rattle.promises.specs.Pages.{known};
-ghost use Rattle.opened.specs.Known.{Knows, pagesIn};
-ghost use Rattle.opened.specs.Passing.{Room, Counted, Standing, OnePassed, Entered, PagePassed, EntriesPassed, IsAccepted, OpenedStaged};
+ghost use Rattle.index.specs.Word.{belowIn};
+ghost use Rattle.index.specs.Chain.{Chain};
+ghost use Rattle.index.specs.Accepted.{AcceptedIndex, ChainRow};
+ghost use Rattle.opened.specs.Rows.{SomeChains, labelCount, SomeLabels};
+ghost use Rattle.opened.specs.Known.{Tabled, pagesIn};
+ghost use Rattle.opened.specs.Passing.{Room, OpenLabels, Marked, Lowered, TookPart, AllMarked, Copied, Staging, SomeStaging, KeptStaged, OpenedStaged};
 
-// Where the pass stands: the next page, the records passed, the pages opened, and the records staged.
-struct Passed {
-    next: usize,
-    records: usize,
-    opened: usize,
-    staged: usize,
-}
-
-// Whether the page that the link at a place leads to is opened, below a page that is opened or not.
-fn opens(
+// How many labels of a chain of u, by its first word, stand before one that is known, among the first `most`.
+fn open_labels(
     s: &[u8],
     heads: &[u32],
     words: &[u64],
-    f: First,
+    root: &[u8],
     u: &[u8],
-    link: usize,
-    is_open: bool,
-) -> bool
-    requires { ⌜ Knows (now s) (now heads) (now words) f × (link + 32 ≤ length (now u)) ⌝ }
-    ensures { λ r. ⌜ ((p : List ℕ) → take 32 (drop link (now (u .entry))) ≡ sha256 p → r ≡ («is_open» && not (known (pagesIn (judge (now (s .entry)))) p))) ⌝ }
+    word: u64,
+    most: usize,
+) -> usize
+    requires { ⌜ Tabled (now s) (now heads) (now words) × (length (now root) ≡ 32) × SomeLabels (now u) word × (most ≤ labelCount word) ⌝ }
+    ensures { λ r. ⌜ (r ≤ most) × OpenLabels (now (s .entry)) (now (heads .entry)) (now (words .entry)) (now (root .entry)) (now (u .entry)) word most r ⌝ }
 {
-    if !is_open {
-        return false;
-    }
-    !is_known(s, heads, words, f, &u[link..link + 32])
-}
-
-// One record more: its word goes into the row where its page is opened. Words of the second register have 2^60 added.
-fn stage(index: &[u64], row: &mut [u64], is_open: bool, st: Passed) -> Passed
-    requires { ⌜ Room (now index) (now row) × Counted (now index) st ⌝ }
-    ensures { λ r. ⌜ OnePassed (now (index .entry)) (now (row .entry)) «is_open» st r (now (row .exit)) ⌝ }
-{
-    let k = st.records;
-    let at = st.staged;
-    if index.len() <= k {
-        return st;
-    }
-    if !is_open {
-        return Passed {
-            next: st.next,
-            records: k + 1,
-            opened: st.opened,
-            staged: at,
-        };
-    }
-    row[at] = index[k] + 0x1000_0000_0000_0000;
-    Passed {
-        next: st.next,
-        records: k + 1,
-        opened: st.opened,
-        staged: at + 1,
-    }
-}
-
-// A page was read, and what follows it begins at next: it counts where it is opened.
-fn enter(next: usize, is_open: bool, st: Passed) -> Passed
-    requires { ⌜ st .opened < next ⌝ }
-    ensures { λ r. ⌜ Entered next «is_open» st r ⌝ }
-{
-    if is_open {
-        return Passed {
-            next,
-            records: st.records,
-            opened: st.opened + 1,
-            staged: st.staged,
-        };
-    }
-    Passed {
-        next,
-        records: st.records,
-        opened: st.opened,
-        staged: st.staged,
-    }
-}
-
-// The page at st.next, opened or not, and all pages below it.
-fn pass_page(
-    s: &[u8],
-    heads: &[u32],
-    words: &[u64],
-    f: First,
-    u: &[u8],
-    index: &[u64],
-    row: &mut [u64],
-    is_open: bool,
-    st: Passed,
-) -> Passed
-    requires { ⌜ Knows (now s) (now heads) (now words) f × Room (now index) (now row) × Standing (now u) (now index) st ⌝ }
-    ensures { λ r. ⌜ PagePassed (pagesIn (judge (now (s .entry)))) (now (u .entry)) (now (index .entry)) (now (row .entry)) «is_open» st r (now (row .exit)) ⌝ }
-{
-    match read_page(u, st.next) {
-        PageRead::Page(p) => {
-            let n = p.count;
-            let first = p.first;
-            let left = p.left;
-            let end = p.end;
-            let cur = enter(end, is_open, st);
-            if left == 0 {
-                return pass_entries(s, heads, words, f, u, index, row, is_open, first, n, cur);
-            }
-            let inner = opens(s, heads, words, f, u, left, is_open);
-            let below = pass_page(s, heads, words, f, u, index, row, inner, cur);
-            pass_entries(s, heads, words, f, u, index, row, is_open, first, n, below)
+    let mut k = 0;
+    while k < most {
+        let at = label_place(word, k);
+        if is_known(s, heads, words, root, &u[at..at + 32]) {
+            return k;
         }
-        PageRead::PageStop(_) => st,
+        k += 1;
     }
+    k
 }
 
-// The n entries from first on of a page that is opened or not, and all pages below them.
-fn pass_entries(
-    s: &[u8],
-    heads: &[u32],
-    words: &[u64],
-    f: First,
-    u: &[u8],
-    index: &[u64],
-    row: &mut [u64],
-    is_open: bool,
-    first: usize,
-    n: usize,
-    st: Passed,
-) -> Passed
-    requires { ⌜ Knows (now s) (now heads) (now words) f × Room (now index) (now row) × Standing (now u) (now index) st ⌝ }
-    ensures { λ r. ⌜ EntriesPassed (pagesIn (judge (now (s .entry)))) (now (u .entry)) (now (index .entry)) (now (row .entry)) «is_open» first n st r (now (row .exit)) ⌝ }
+// How many chains are passed over, by the second word of a chain: those below it where it has a known page.
+fn passed_over(word: u64, closed: bool) -> usize
+    ensures { λ r. ⌜ (r ≡ cond closed (belowIn word) 0) × (r < 2 ^ 14) ⌝ }
 {
-    let mut cur = st;
-    let mut at = first;
+    if closed {
+        return (word / 0x4_0000_0000_0000) as usize;
+    }
+    0
+}
+
+// At first no page is known.
+fn begin_marks(chains: &[u64], m: usize, marks: &mut [u8])
+    requires { ⌜ (2 * m ≤ length (now chains)) × (m ≤ length (now marks)) × ((i : ℕ) → i < m → labelCount (getD (now chains) (2 * i) 0) ≤ 129) ⌝ }
+    ensures { λ _. ⌜ ((i : ℕ) → i < m → getD (now (marks .exit)) i 0 ≡ labelCount (getD (now (chains .entry)) (2 * i) 0)) ⌝ }
+{
     let mut i = 0;
-    while i < n {
-        match read_entry(u, at) {
-            EntryRead::Entry(e) => {
-                let link = e.link;
-                let one = stage(index, row, is_open, cur);
-                i += 1;
-                at = e.end;
-                if link == 0 {
-                    cur = one;
-                    continue;
-                }
-                let inner = opens(s, heads, words, f, u, link, is_open);
-                cur = pass_page(s, heads, words, f, u, index, row, inner, one);
-            }
-            EntryRead::EntryStop(_) => {
-                return cur;
-            }
-        }
+    while i < m {
+        marks[i] = label_count(chains[2 * i]) as u8;
+        i += 1;
     }
-    cur
+}
+
+// The marks are lowered to the pages that the table knows.
+fn lower_marks(
+    s: &[u8],
+    heads: &[u32],
+    words: &[u64],
+    root: &[u8],
+    u: &[u8],
+    chains: &[u64],
+    m: usize,
+    marks: &mut [u8],
+)
+    requires { ⌜ Tabled (now s) (now heads) (now words) × (length (now root) ≡ 32) × Marked (now u) (now chains) m (now marks) × (m ≤ length (now marks)) ⌝ }
+    ensures { λ _. ⌜ Lowered (now (s .entry)) (now (heads .entry)) (now (words .entry)) (now (root .entry)) (now (u .entry)) (now (chains .entry)) m (now (marks .entry)) (now (marks .exit)) ⌝ }
+{
+    let mut i = 0;
+    while i < m {
+        let word = chains[2 * i];
+        let open = open_labels(s, heads, words, root, u, word, marks[i] as usize);
+        marks[i] = open as u8;
+        i += 1 + passed_over(chains[2 * i + 1], open < label_count(word));
+    }
+}
+
+// Where the next part begins, and whether the second register's root is still opened.
+struct Part {
+    next: usize,
+    opens: bool,
+}
+
+// One part of the first register's labels, from the start-th chain on, is taken in.
+fn take_part(
+    s: &[u8],
+    known: &[u64],
+    n: usize,
+    start: usize,
+    root: &[u8],
+    heads: &mut [u32],
+    words: &mut [u64],
+    u: &[u8],
+    chains: &[u64],
+    m: usize,
+    top: &[u8],
+    marks: &mut [u8],
+) -> Part
+    requires { ⌜ SomeChains (now s) (now known) n × (start ≤ n) × (length (now heads) ≡ 4096) × (length (now words) ≡ 4096) × (length (now s) < 2 ^ 32) × (length (now root) ≡ 32) × Marked (now u) (now chains) m (now marks) × (m ≤ length (now marks)) × (length (now top) ≡ 32) ⌝ }
+    ensures { λ r. ⌜ TookPart (now (s .entry)) (now (known .entry)) n start (now (root .entry)) (now (u .entry)) (now (chains .entry)) m (now (top .entry)) (now (marks .entry)) (now (marks .exit)) r ⌝ }
+{
+    let next = fill(s, known, n, start, heads, words);
+    lower_marks(s, heads, words, root, u, chains, m, marks);
+    let found = is_known(s, heads, words, root, top);
+    Part {
+        next,
+        opens: !found,
+    }
+}
+
+// Each chain of the second register is marked with how many of its pages come before one that is known. Whether the second's root is opened;
+// where it is not, the marks are of no use.
+fn mark_known(
+    s: &[u8],
+    known: &[u64],
+    n: usize,
+    u: &[u8],
+    chains: &[u64],
+    m: usize,
+    marks: &mut [u8],
+) -> bool
+    requires { ⌜ ChainRow (now s) (now known) n × ChainRow (now u) (now chains) m × (m ≤ length (now marks)) × (length (now s) ≤ 4194304) ⌝ }
+    ensures { λ r. ⌜ ((t v : SpeltTree) → judge (now (s .entry)) ≡ accepted t → judge (now (u .entry)) ≡ accepted v → AllMarked t v (now (marks .exit)) r) ⌝ }
+{
+    let root = root_digest(s);
+    let top = root_digest(u);
+    let mut heads = [0u32; 4096];
+    let mut words = [0u64; 4096];
+    begin_marks(chains, m, marks);
+    let first = take_part(
+        s,
+        known,
+        n,
+        0,
+        &root,
+        &mut heads,
+        &mut words,
+        u,
+        chains,
+        m,
+        &top,
+        marks,
+    );
+    let mut done = first.next;
+    let mut opens = first.opens;
+    while done < n {
+        if !opens {
+            return false;
+        }
+        let part = take_part(
+            s,
+            known,
+            n,
+            done,
+            &root,
+            &mut heads,
+            &mut words,
+            u,
+            chains,
+            m,
+            &top,
+            marks,
+        );
+        done = part.next;
+        opens = part.opens;
+    }
+    opens
 }
 
 // How many records are staged, and how many pages are opened.
@@ -176,35 +185,70 @@ pub struct Opening {
     pub opened: usize,
 }
 
+// The words from one place of the index to another go into the row. Words of the second register have 2^60 added. The place after them.
+fn copy_words(index: &[u64], from: usize, to: usize, row: &mut [u64], at: usize) -> usize
+    requires { ⌜ Room (now index) (now row) × (from ≤ to) × (to ≤ length (now index)) × (at ≤ from) ⌝ }
+    ensures { λ r. ⌜ Copied (now (index .entry)) (now (row .entry)) from to at (now (row .exit)) r ⌝ }
+{
+    let mut i = from;
+    let mut k = at;
+    while i < to {
+        row[k] = index[i] + 0x1000_0000_0000_0000;
+        i += 1;
+        k += 1;
+    }
+    k
+}
+
+// The last pass, where the root is opened: the opened pages are counted, and the words of all records but those under known pages go to the
+// front of the row.
+fn stage_kept(chains: &[u64], m: usize, marks: &[u8], index: &[u64], row: &mut [u64]) -> Opening
+    requires { ⌜ Room (now index) (now row) × SomeStaging (now chains) m (now marks) (now index) × (m ≤ length (now marks)) ⌝ }
+    ensures { λ r. ⌜ ((u : List ℕ) (digests : List (List ℕ)) (cs : List Chain) → Staging u (now (chains .entry)) m (now (marks .entry)) (now (index .entry)) digests cs → KeptStaged (now (index .entry)) digests cs (now (row .exit)) r) ⌝ }
+{
+    let mut opened = 1;
+    let mut from = 0;
+    let mut staged = 0;
+    let mut i = 0;
+    while i < m {
+        let open = marks[i] as usize;
+        let word = chains[2 * i + 1];
+        opened += open;
+        if label_count(chains[2 * i]) <= open {
+            i += 1;
+            continue;
+        }
+        let to = (word / 0x100_0000 % 0x2000) as usize;
+        staged = copy_words(index, from, to, row, staged);
+        from = to + (word / 0x20_0000_0000 % 0x2000) as usize;
+        i += 1 + passed_over(word, true);
+    }
+    staged = copy_words(index, from, index.len(), row, staged);
+    Opening { staged, opened }
+}
+
 // The words of the second register's records in opened pages, in key order, go to the front of the row; the opened pages are counted.
-pub fn open_pages(s: &[u8], u: &[u8], index: &[u64], count: usize, row: &mut [u64]) -> Opening
-    requires { ⌜ IsAccepted (now s) × AcceptedIndex (now u) (now index) count × (count ≤ length (now index)) × (count ≤ length (now row)) × (length (now s) ≤ 4194304) × (length (now u) ≤ 4194304) ⌝ }
+pub fn open_pages(
+    s: &[u8],
+    known: &[u64],
+    n: usize,
+    u: &[u8],
+    chains: &[u64],
+    m: usize,
+    index: &[u64],
+    count: usize,
+    row: &mut [u64],
+) -> Opening
+    requires { ⌜ ChainRow (now s) (now known) n × ChainRow (now u) (now chains) m × AcceptedIndex (now u) (now index) count × (count ≤ length (now index)) × (count ≤ length (now row)) × (length (now s) ≤ 4194304) × (length (now u) ≤ 4194304) ⌝ }
     ensures { λ r. ⌜ ((v : SpeltTree) → judge (now (u .entry)) ≡ accepted v → OpenedStaged (pagesIn (judge (now (s .entry)))) v (now (index .entry)) count r (now (row .exit))) ⌝ }
 {
-    let mut heads = [0u32; 4096];
-    let mut words = [0u64; 8192];
-    let f = gather(s, &mut heads, &mut words);
-    let digest = root_digest(u);
-    let is_open = !is_known(s, &heads, &words, f, &digest);
-    let start = Passed {
-        next: 0,
-        records: 0,
-        opened: 0,
-        staged: 0,
-    };
-    let r = pass_page(
-        s,
-        &heads,
-        &words,
-        f,
-        u,
-        &index[..count],
-        row,
-        is_open,
-        start,
-    );
-    Opening {
-        staged: r.staged,
-        opened: r.opened,
+    let mut marks = [0u8; 4096];
+    let opens = mark_known(s, known, n, u, chains, m, &mut marks);
+    if !opens {
+        return Opening {
+            staged: 0,
+            opened: 0,
+        };
     }
+    stage_kept(chains, m, &marks, &index[..count], row)
 }

@@ -21,15 +21,17 @@ use Rattle.page.proofs.Tools.{All}
 use Rattle.tree.proofs.Accept as accept
 use Rattle.index.specs.Slot.{Slot, slots}
 use Rattle.index.specs.Standing.{SlotAt}
-use Rattle.index.specs.Walk.{RegisterSays, AcceptedIndex}
-use Rattle.index.specs.declared.Register.{Register}
-use Rattle.index.specs.declared.Register.the-variants.{Accepted, Refused as Unfit}
+use Rattle.index.specs.Accepted.{AcceptedIndex}
+use Rattle.judge.specs.Verdict.{RegisterSays}
+use Rattle.judge.specs.declared.Register.{Register}
+use Rattle.judge.specs.declared.Register.the-variants.{Accepted, Refused as Unfit}
 use Rattle.index.proofs.SlotLaws.{slots-places}
 use Rattle.index.proofs.Standing.{accepted-slots-stand, value-within}
 use Rattle.promises.specs.Outcome.{placeOf, lookupAnswer, lookupVerdict, answerPlace}
 use Rattle.row.specs.Search.{placeFound, SearchSays}
 use Rattle.row.specs.declared.search.Searched.{Searched}
 use Rattle.row.specs.declared.search.Searched.the-variants.{At, Absent}
+use Rattle.register.proofs.Verdicts.{accepted-index}
 
 -- ---- every value of an accepted register stands within it
 values-within : (s : List ℕ) (xs : List Slot) → All (SlotAt s) xs → All (λ p. p + 32 ≤ length s) (map (λ x. x .value) xs)
@@ -52,16 +54,16 @@ place-among P k (r ∷ rs) (q ∷ ps) p h e =
     (λ _ f. cond-inv (less (r .key) k) (λ _ g. place-among P k rs ps p (h .1) g) (λ _ g. subst P (some-place g) (h .0)) f) e
 
 -- ---- the answer
-module _ (s index : List ℕ) (m : Register) (w : RegisterSays s m index) where
+module _ (s index row : List ℕ) (m : Register) (w : RegisterSays s m index row) where
   pub answer-refused : (r : Refusal) → m ≡ Unfit r → (k : List ℕ) → Refused r ≡ lookupAnswer s k
   unfolding lookupAnswer lookupVerdict
   answer-refused r q k =
-      let e = subst (λ (x : Register). RegisterSays s x index) q w in
+      let e = subst (λ (x : Register). RegisterSays s x index row) q w in
       rw e
 
-  module _ (count : ℕ) (q : m ≡ Accepted count) where
+  module _ (count chains : ℕ) (q : m ≡ Accepted count chains) where
     given : AcceptedIndex s index count
-    given = subst (λ (x : Register). RegisterSays s x index) q w
+    given = accepted-index s index row m w q
 
     pub count-within : Bytes s → count ≤ most
     count-within b = omega (arith, given .size, accept.accepted-table s b (given .tree) (given .judged) .fit .count)

@@ -22,9 +22,10 @@ use Rattle.tree.specs.Judge.{most}
 use Rattle.tree.specs.Place.{places}
 use Rattle.tree.proofs.Laws.{accepted-table}
 use Rattle.index.specs.Slot.{slots}
-use Rattle.index.specs.Walk.{AcceptedIndex, RegisterSays}
-use Rattle.index.specs.declared.Register.{Register}
-use Rattle.index.specs.declared.Register.the-variants.{Accepted}
+use Rattle.index.specs.Accepted.{AcceptedIndex}
+use Rattle.judge.specs.Verdict.{RegisterSays}
+use Rattle.judge.specs.declared.Register.{Register}
+use Rattle.judge.specs.declared.Register.the-variants.{Accepted}
 use Rattle.index.proofs.SlotLaws.{slots-length, slots-places}
 use Rattle.row.specs.Row.{nothing, recordOf, Stands, Row, recordsOf}
 use Rattle.row.proofs.Rows.{records-length, accepted-short, word-small, accepted-row, accepted-records, second-row, second-records}
@@ -92,11 +93,11 @@ pub record Accepting (s index : List ℕ) (count : ℕ) : Type 0 where
   pub given : AcceptedIndex s index count
   pub fits : count ≤ length index
 
-pub accepting : (s index : List ℕ) (x : Register) → RegisterSays s x index → {count : ℕ} → x ≡ Accepted count
+pub accepting : (s index row : List ℕ) (x : Register) → RegisterSays s x index row → {count n : ℕ} → x ≡ Accepted count n
     → ((i : ℕ) → i < length s → getD s i 0 < 256) → length index ≡ 4096 → Accepting s index count
-accepting s index x says e small size =
+accepting s index row x says e small size =
     let bytes = bytes-of s small in
-    let given = accepted-index s index x says e in
+    let given = accepted-index s index row x says e in
     record { bytes = bytes; given = given; fits = omega (arith, accepted-few bytes given) }
 
 module _ {s index : List ℕ} {count : ℕ} (a : Accepting s index count) where

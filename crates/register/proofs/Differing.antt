@@ -25,13 +25,13 @@ use Rattle.tree.specs.Record.{Record, Spelt, records}
 use Rattle.tree.specs.Table.{SpeltTree, bytesOfPage, table, tableUnder, tableFrom, tableOf}
 use Rattle.tree.specs.Judge.{due, most, Verdict, refused, accepted, judge}
 use Rattle.tree.proofs.Accept.{Accepted, accepted-table}
-use Rattle.index.specs.Walk.{AcceptedIndex}
+use Rattle.index.specs.Accepted.{AcceptedIndex, ChainRow}
 use Rattle.row.specs.Row.{recordOf, Stands, Row, recordsOf}
 use Rattle.row.proofs.Rows.{records-length, accepted-short, accepted-row, accepted-records, second-row, second-records}
 use Rattle.writer.specs.Output.{fitsOutput, tableAnswer, tableOutput}
 use Rattle.promises.specs.Pages.{pagesOf, known, openedPages}
 use Rattle.opened.specs.Known.{pagesIn}
-use Rattle.opened.specs.Passing.{flags, pick, marked, IsAccepted, OpenedStaged}
+use Rattle.opened.specs.Passing.{flags, pick, marked, OpenedStaged}
 use Rattle.opened.specs.declared.pass.Opening.{Opening}
 use Rattle.opened.proofs.Picks.{pick-map}
 use Rattle.opened.proofs.OpenFlags.{opened-picks}
@@ -188,9 +188,9 @@ module _ {s u index other : List ℕ} {n m : ℕ} (b : Both s u index other n m)
   second-short : length u ≤ longest
   second-short = omega (arith, ap length (secondAccepted .written), secondAccepted .fit .size)
 
-  pub may-open : IsAccepted s × AcceptedIndex u other m × (m ≤ length other) × (m ≤ most) × (length s ≤ longest) × (length u ≤ longest)
-  may-open =
-      (record { tree = t; judged = b .first .judged }, b .second, b .others-fit, accepted-few (b .others) (b .second), first-short, second-short)
+  pub may-open : {known chains : List ℕ} {k l : ℕ} → ChainRow s known k → ChainRow u chains l
+      → ChainRow s known k × ChainRow u chains l × AcceptedIndex u other m × (m ≤ length other) × (m ≤ most) × (length s ≤ longest) × (length u ≤ longest)
+  may-open x y = (x, y, b .second, b .others-fit, accepted-few (b .others) (b .second), first-short, second-short)
 
   -- what is opened rises
   second-sorted : Sorted (records v)
@@ -207,11 +207,11 @@ module _ {s u index other : List ℕ} {n m : ℕ} (b : Both s u index other n m)
     enough : m ≤ length row
     enough = omega (arith, accepted-few (b .others) (b .second))
 
-    pub may-leave : Row s u index n × Row s u row (r .staged) × (most ≤ most)
-    may-leave = (
+    pub may-leave : {k : ℕ} → most ≤ k → Row s u index n × Row s u row (r .staged) × (most ≤ k)
+    may-leave h = (
       accepted-row s index t n (b .bytes) (b .first .judged) (b .first .indexed) (b .first .size) (b .fits) u (omega (arith, second-short)),
       row-staged s u other m (b .others) (b .second) (b .others-fit) (pagesOf t) r row staged enough (omega (arith, first-short)),
-      omega arith,
+      h,
     )
 
     -- each opened page has at least one byte

@@ -21,7 +21,8 @@ use Rattle.tree.specs.Judge.{allLawful, refused, judge}
 use Rattle.page.proofs.Tools.{and-inv}
 use Rattle.tree.proofs.Laws.{all-lawful, accepted-table}
 use Rattle.index.specs.Slot.{Slot, slots, keyOf}
-use Rattle.index.specs.Walk.{AcceptedIndex, Indexes, blank}
+use Rattle.index.specs.Walk.{HoldsWords, Indexes, blank}
+use Rattle.index.specs.Accepted.{AcceptedIndex}
 use Rattle.index.specs.Standing.{SlotAt}
 use Rattle.index.proofs.SlotLaws.{slots-length, slot-record}
 use Rattle.index.proofs.Standing.{accepted-slot-stands, value-within}
@@ -114,7 +115,7 @@ module _ {s index : List ℕ} {count : ℕ} (a : AcceptedIndex s index count) (b
   module _ (buffer₀ buffer : List ℕ) (found : Found) (f : FetchSays s (getD index n 0) buffer₀ 0 buffer found) (i : n < length index) where
     -- its key and the place of its value are found
     says : Fetched s slotOf stands buffer found
-    unfolding FetchSays Indexes
+    unfolding FetchSays HoldsWords
     says = let w = a .indexed n within i in f slotOf stands (w .page) (w .entry) (no-note s buffer₀)
 
     pub size-small : found .size ≤ 256

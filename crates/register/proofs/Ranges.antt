@@ -20,7 +20,7 @@ use Rattle.key.proofs.Laws.{order-less, order-equal, order-greater, less-asymme
 use Rattle.tree.specs.Record.{Record, records}
 use Rattle.tree.specs.Table.{SpeltTree}
 use Rattle.tree.specs.Judge.{due, most, refused, accepted, judge}
-use Rattle.index.specs.Walk.{AcceptedIndex}
+use Rattle.index.specs.Accepted.{AcceptedIndex}
 use Rattle.promises.specs.Map.{nth}
 use Rattle.promises.specs.Outcome.{unlisted, listRecord, listVerdict, listOutcome, stopped, sizes, settle}
 use Rattle.promises.specs.Range.{atOrAfter, lastBefore, recordsBetween, oneRecord, besideKey, atOrAfterOutcome, beforeOutcome, runTests, runVerdict, runOutcome}

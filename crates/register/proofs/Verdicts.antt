@@ -8,18 +8,25 @@ use Rattle.answer.specs.declared.Answer.the-variants.{Done, Refused}
 use Rattle.fips180.specs.Bytes.{Bytes}
 use Rattle.tree.specs.Judge.{refused, judge}
 use Rattle.tree.proofs.Accept.{accepted-table}
-use Rattle.index.specs.Walk.{AcceptedIndex, RegisterSays}
-use Rattle.index.specs.declared.Register.{Register}
-use Rattle.index.specs.declared.Register.the-variants.{Accepted, Refused as RefusedRegister}
+use Rattle.index.specs.Accepted.{AcceptedIndex, ChainRow}
+use Rattle.judge.specs.Verdict.{RegisterSays}
+use Rattle.judge.specs.declared.Register.{Register}
+use Rattle.judge.specs.declared.Register.the-variants.{Accepted, Refused as RefusedRegister}
 use Rattle.promises.specs.Outcome.{checkVerdict, checkAnswer}
 
 -- ---- what the answered judgement says
-module _ (s index : List ℕ) (x : Register) (says : RegisterSays s x index) where
-  pub accepted-index : {count : ℕ} → x ≡ Accepted count → AcceptedIndex s index count
-  accepted-index e = subst (λ (y : Register). RegisterSays s y index) e says
+module _ (s index row : List ℕ) (x : Register) (says : RegisterSays s x index row) where
+  accepted-rows : {count n : ℕ} → x ≡ Accepted count n → AcceptedIndex s index count × ChainRow s row n
+  accepted-rows e = subst (λ (y : Register). RegisterSays s y index row) e says
+
+  pub accepted-index : {count n : ℕ} → x ≡ Accepted count n → AcceptedIndex s index count
+  accepted-index e = accepted-rows e .0
+
+  pub accepted-chains : {count n : ℕ} → x ≡ Accepted count n → ChainRow s row n
+  accepted-chains e = accepted-rows e .1
 
   pub judged-refused : {r : Refusal} → x ≡ RefusedRegister r → judge s ≡ refused r
-  judged-refused e = subst (λ (y : Register). RegisterSays s y index) e says
+  judged-refused e = subst (λ (y : Register). RegisterSays s y index row) e says
 
 -- ---- the answer of check
 pub checked : {s index : List ℕ} {count : ℕ} → AcceptedIndex s index count → Done count ≡ checkAnswer s

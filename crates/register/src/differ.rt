@@ -7,30 +7,54 @@ use writer::write_table;
 ghost use mathlib.Core.Path.{_≡_};
 ghost use Prim.Native.Nat.{_≤_};
 ghost use lib.ListN.{length};
-ghost use Rattle.index.specs.Walk.{AcceptedIndex};
+ghost use Rattle.index.specs.Accepted.{AcceptedIndex, ChainRow};
 ghost use Rattle.promises.specs.Difference.{differenceOutcome, differenceAnswer, differenceOutput};
 
 // The records in opened pages of the second register are staged, those that the first holds are left out, and the others are written. The
-// indexes are those of the two registers.
+// chains and the indexes are those of the two registers; the second's index has done its work when all is staged, and takes the row of what is
+// written.
 pub fn differ(
     first: &[u8],
     second: &[u8],
+    first_chains: &[u64],
+    first_count: usize,
+    second_chains: &[u64],
+    second_count: usize,
     index: &[u64],
     n: usize,
-    other: &[u64],
+    other: &mut [u64],
     m: usize,
     out: &mut [u8],
 ) -> Differed
-    requires { ⌜ AcceptedIndex (now first) (now index) n × AcceptedIndex (now second) (now other) m × (n ≤ length (now index)) × (m ≤ length (now other)) ⌝ }
+    requires { ⌜ AcceptedIndex (now first) (now index) n × AcceptedIndex (now second) (now other) m × ChainRow (now first) (now «first_chains») «first_count» × ChainRow (now second) (now «second_chains») «second_count» × (n ≤ length (now index)) × (m ≤ length (now other)) × (4096 ≤ length (now other)) ⌝ }
     ensures answer { λ r. ⌜ r ≡ differenceAnswer (differenceOutcome (now (first .entry)) (now (second .entry)) (length (now (out .entry)))) ⌝ }
     ensures output { λ _. ⌜ now (out .exit) ≡ differenceOutput (differenceOutcome (now (first .entry)) (now (second .entry)) (length (now (out .entry)))) (length (now (out .entry))) ⌝ }
 {
     let mut staged = [0u64; 4096];
-    let opening = open_pages(first, second, other, m, &mut staged);
+    let opening = open_pages(
+        first,
+        first_chains,
+        first_count,
+        second,
+        second_chains,
+        second_count,
+        other,
+        m,
+        &mut staged,
+    );
     let opened = opening.opened as u32;
-    let mut row = [0u64; 4096];
-    let count = leave_held(first, second, index, n, &staged, opening.staged, &mut row);
-    match write_table(first, second, &row, count, out) {
+    let count = leave_held(first, second, index, n, &staged, opening.staged, other);
+    match write_table(
+        first,
+        second,
+        first_chains,
+        first_count,
+        second_chains,
+        second_count,
+        other,
+        count,
+        out,
+    ) {
         Answer::Done(length) => Differed::Found(length, opened),
         Answer::Refused(refusal) => Differed::Refused(refusal),
     }

@@ -16,8 +16,8 @@ use answer::Refusal;
 use choice::words::leave_out;
 use choice::words::single;
 use choice::words::to_second;
-use index::Register;
-use index::judge;
+use judge::Register;
+use judge::judge;
 use key::order::Order;
 use key::order::compare;
 use key::slash;
@@ -40,10 +40,10 @@ ghost use Rattle.register.specs.Writing.{setOutcome};
 pub fn check(register: &[u8]) -> Answer
     ensures { λ r. ⌜ r ≡ checkAnswer (now (register .entry)) ⌝ }
 {
-    // The index is not used here: one word of it is enough.
-    let mut index = [0u64; 1];
-    match judge(register, &mut index) {
-        Register::Accepted(count) => Answer::Done(count as u32),
+    let mut index = [0u64; 4096];
+    let mut chains = [0u64; 8192];
+    match judge(register, &mut index, &mut chains) {
+        Register::Accepted(count, _) => Answer::Done(count as u32),
         Register::Refused(refusal) => Answer::Refused(refusal),
     }
 }
@@ -53,8 +53,9 @@ pub fn lookup(register: &[u8], key: &[u8]) -> Answer
     ensures { λ r. ⌜ r ≡ lookupAnswer (now (register .entry)) (now (key .entry)) ⌝ }
 {
     let mut index = [0u64; 4096];
-    match judge(register, &mut index) {
-        Register::Accepted(count) => {
+    let mut chains = [0u64; 8192];
+    match judge(register, &mut index, &mut chains) {
+        Register::Accepted(count, _) => {
             if let Answer::Refused(refusal) = slash(key) {
                 return Answer::Refused(refusal);
             }
@@ -75,8 +76,9 @@ pub fn list(register: &[u8], n: u64, out: &mut [u8], value: &mut [u8; 32]) -> An
     ensures value { λ _. ⌜ now (value .exit) ≡ listValue (listOutcome (now (register .entry)) n (length (now (out .entry)))) ⌝ }
 {
     let mut index = [0u64; 4096];
-    match judge(register, &mut index) {
-        Register::Accepted(count) => {
+    let mut chains = [0u64; 8192];
+    match judge(register, &mut index, &mut chains) {
+        Register::Accepted(count, _) => {
             if count as u64 <= n {
                 clear(out);
                 *value = [0u8; 32];
@@ -123,8 +125,9 @@ pub fn run(register: &[u8], first: &[u8], last: &[u8], out: &mut [u8]) -> Answer
     ensures output { λ _. ⌜ now (out .exit) ≡ outputOf (runOutcome (now (register .entry)) (now (first .entry)) (now (last .entry)) (length (now (out .entry)))) (length (now (out .entry))) ⌝ }
 {
     let mut index = [0u64; 4096];
-    match judge(register, &mut index) {
-        Register::Accepted(count) => {
+    let mut chains = [0u64; 8192];
+    match judge(register, &mut index, &mut chains) {
+        Register::Accepted(count, n) => {
             if let Answer::Refused(refusal) = slash(first) {
                 return refuse(out, refusal);
             }
@@ -136,7 +139,17 @@ pub fn run(register: &[u8], first: &[u8], last: &[u8], out: &mut [u8]) -> Answer
             }
             let low = count_below(register, &index, count, first);
             let high = count_up_to(register, &index, count, last);
-            write_table(register, register, &index[low..high], high - low, out)
+            write_table(
+                register,
+                register,
+                &chains,
+                n,
+                &chains,
+                n,
+                &index[low..high],
+                high - low,
+                out,
+            )
         }
         Register::Refused(refusal) => refuse(out, refusal),
     }
@@ -165,8 +178,9 @@ fn set_value(register: &[u8], key: &[u8], value: &[u8], greater: bool, out: &mut
     ensures output { λ _. ⌜ now (out .exit) ≡ outputOf (setOutcome greater (now (register .entry)) (now (key .entry)) (now (value .entry)) (length (now (out .entry)))) (length (now (out .entry))) ⌝ }
 {
     let mut index = [0u64; 4096];
-    match judge(register, &mut index) {
-        Register::Accepted(count) => {
+    let mut chains = [0u64; 8192];
+    match judge(register, &mut index, &mut chains) {
+        Register::Accepted(count, n) => {
             if let Answer::Refused(refusal) = slash(key) {
                 return refuse(out, refusal);
             }
@@ -177,7 +191,20 @@ fn set_value(register: &[u8], key: &[u8], value: &[u8], greater: bool, out: &mut
             let mut page = [0u8; 512];
             let mut words = [0u64; 1];
             words[0] = single(key, bytes, &mut page);
-            write_chosen(register, &page, &index, count, &words, 1, greater, out)
+            write_chosen(
+                register,
+                &page,
+                &chains,
+                n,
+                &chains,
+                0,
+                &index,
+                count,
+                &words,
+                1,
+                greater,
+                out,
+            )
         }
         Register::Refused(refusal) => refuse(out, refusal),
     }
@@ -189,15 +216,26 @@ pub fn remove(register: &[u8], key: &[u8], out: &mut [u8]) -> Answer
     ensures output { λ _. ⌜ now (out .exit) ≡ outputOf (removeOutcome (now (register .entry)) (now (key .entry)) (length (now (out .entry)))) (length (now (out .entry))) ⌝ }
 {
     let mut index = [0u64; 4096];
-    match judge(register, &mut index) {
-        Register::Accepted(count) => {
+    let mut chains = [0u64; 8192];
+    match judge(register, &mut index, &mut chains) {
+        Register::Accepted(count, n) => {
             if let Answer::Refused(refusal) = slash(key) {
                 return refuse(out, refusal);
             }
             match search(register, &index, count, key) {
                 Searched::At(position, _) => {
                     leave_out(&mut index, count, position);
-                    write_table(register, register, &index, count - 1, out)
+                    write_table(
+                        register,
+                        register,
+                        &chains,
+                        n,
+                        &chains,
+                        n,
+                        &index,
+                        count - 1,
+                        out,
+                    )
                 }
                 Searched::Absent(_) => refuse(out, Refusal::KeyAbsent),
             }
@@ -212,13 +250,28 @@ pub fn merge(first: &[u8], second: &[u8], out: &mut [u8]) -> Answer
     ensures output { λ _. ⌜ now (out .exit) ≡ outputOf (mergeOutcome (now (first .entry)) (now (second .entry)) (length (now (out .entry)))) (length (now (out .entry))) ⌝ }
 {
     let mut index = [0u64; 4096];
-    match judge(first, &mut index) {
-        Register::Accepted(n) => {
+    let mut chains = [0u64; 8192];
+    match judge(first, &mut index, &mut chains) {
+        Register::Accepted(n, first_count) => {
             let mut others = [0u64; 4096];
-            match judge(second, &mut others) {
-                Register::Accepted(m) => {
+            let mut other_chains = [0u64; 8192];
+            match judge(second, &mut others, &mut other_chains) {
+                Register::Accepted(m, second_count) => {
                     to_second(&mut others, m);
-                    write_chosen(first, second, &index, n, &others, m, true, out)
+                    write_chosen(
+                        first,
+                        second,
+                        &chains,
+                        first_count,
+                        &other_chains,
+                        second_count,
+                        &index,
+                        n,
+                        &others,
+                        m,
+                        true,
+                        out,
+                    )
                 }
                 Register::Refused(refusal) => refuse(out, refusal),
             }
@@ -234,15 +287,31 @@ pub fn difference(first: &[u8], second: &[u8], out: &mut [u8]) -> Differed
     ensures output { λ _. ⌜ now (out .exit) ≡ differenceOutput (differenceOutcome (now (first .entry)) (now (second .entry)) (length (now (out .entry)))) (length (now (out .entry))) ⌝ }
 {
     let mut index = [0u64; 4096];
-    let mut other = [0u64; 4096];
-    match judge(first, &mut index) {
-        Register::Accepted(n) => match judge(second, &mut other) {
-            Register::Accepted(m) => differ(first, second, &index, n, &other, m, out),
-            Register::Refused(refusal) => {
-                clear(out);
-                Differed::Refused(refusal)
+    let mut chains = [0u64; 8192];
+    let mut others = [0u64; 4096];
+    let mut other_chains = [0u64; 8192];
+    match judge(first, &mut index, &mut chains) {
+        Register::Accepted(n, first_count) => {
+            match judge(second, &mut others, &mut other_chains) {
+                Register::Accepted(m, second_count) => differ(
+                    first,
+                    second,
+                    &chains,
+                    first_count,
+                    &other_chains,
+                    second_count,
+                    &index,
+                    n,
+                    &mut others,
+                    m,
+                    out,
+                ),
+                Register::Refused(refusal) => {
+                    clear(out);
+                    Differed::Refused(refusal)
+                }
             }
-        },
+        }
         Register::Refused(refusal) => {
             clear(out);
             Differed::Refused(refusal)

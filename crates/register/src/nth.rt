@@ -2,8 +2,8 @@
 use crate::bytes::copy_in;
 use answer::Answer;
 use answer::Refusal;
-use index::Register;
-use index::judge;
+use judge::Register;
+use judge::judge;
 use key::slash;
 use row::bytes::value_at;
 use row::fetch::fetch_from;
@@ -14,7 +14,7 @@ ghost use Prim.Native.Nat.{_≤_, _<_};
 ghost use lib.ListN.{length};
 ghost use Rattle.answer.specs.declared.Answer.the-variants.{Refused};
 ghost use Rattle.fips180.specs.Hash.{zeros};
-ghost use Rattle.index.specs.Walk.{AcceptedIndex};
+ghost use Rattle.index.specs.Accepted.{AcceptedIndex};
 ghost use Rattle.register.specs.Beside.{besideOutcome};
 ghost use Rattle.promises.specs.Outcome.{listOutcome, listAnswer, listKey, listValue};
 
@@ -72,8 +72,9 @@ pub fn beside(
     ensures value { λ _. ⌜ now (value .exit) ≡ listValue (besideOutcome after (now (register .entry)) (now (key .entry)) (length (now (out .entry)))) ⌝ }
 {
     let mut index = [0u64; 4096];
-    match judge(register, &mut index) {
-        Register::Accepted(count) => {
+    let mut chains = [0u64; 8192];
+    match judge(register, &mut index, &mut chains) {
+        Register::Accepted(count, _) => {
             if let Answer::Refused(refusal) = slash(key) {
                 return refuse_record(out, value, refusal);
             }

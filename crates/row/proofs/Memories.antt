@@ -14,7 +14,7 @@ use Rattle.tree.specs.Record.{Record}
 use Rattle.index.specs.Slot.{keyOf}
 use Rattle.index.proofs.Buffers.{holds-whole}
 use Rattle.index.proofs.Standing.{steps-end, slot-steps, value-within}
-use Rattle.row.specs.Row.{sourceOf, Stands}
+use Rattle.row.specs.Row.{sourceOf, AtPlaces}
 use Rattle.row.specs.Memory.{NoteHolds, bufferOf, Remembers, Recalls}
 use Rattle.row.specs.Notes.{NoteFor, NoteOf}
 use Rattle.row.specs.Fetch.{Fetched, FetchSays}
@@ -127,7 +127,7 @@ module _ {s u keys notes : List ℕ} (mem : Remembers s u keys notes) (j : ℕ) 
 
 -- ---- a record that is recalled
 -- The slot of the word is fetched into the part of the memory that is lent, k bytes, which are 256.
-module _ {s u keys notes : List ℕ} {word slot : ℕ} (stands : Stands s u word) (mem : Remembers s u keys notes) (room : slot < length notes)
+module _ {s u keys notes : List ℕ} {word slot : ℕ} (stands : AtPlaces s u word) (mem : Remembers s u keys notes) (room : slot < length notes)
     (k : ℕ) (whole : k ≡ 256) (note : ℕ) (for : NoteFor word (getD notes slot 0) note) (part : List ℕ) (found : Found)
     (f : FetchSays (sourceOf s u word) word (take k (drop (256 * slot) keys)) note part found) where
   fetched : Fetched (sourceOf s u word) (stands .slot) (stands .there) part found

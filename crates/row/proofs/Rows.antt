@@ -21,12 +21,13 @@ use Rattle.tree.specs.Table.{SpeltTree}
 use Rattle.tree.specs.Judge.{accepted, judge}
 use Rattle.tree.proofs.Laws.{Fitting, all-lawful, accepted-table}
 use Rattle.index.specs.Slot.{Slot, slots, keyOf, lawfulSlots}
-use Rattle.index.specs.Walk.{pageIn, entryIn, WordOf, blank, Indexes}
-use Rattle.index.specs.Walk as indexed
+use Rattle.index.specs.Word.{pageIn, entryIn}
+use Rattle.index.specs.Word as indexed
+use Rattle.index.specs.Walk.{WordOf, blank, HoldsWords, Indexes}
 use Rattle.index.specs.Standing.{keyAfter, Steps, here, next, SlotAt}
 use Rattle.index.proofs.SlotLaws.{slots-length, slots-lawful, slot-record}
 use Rattle.index.proofs.Standing.{steps-ahead, accepted-slot-stands}
-use Rattle.row.specs.Row.{fromSecond, sourceOf, layerIn, nothing, whenRead, recordFrom, recordAt, recordOf, Stands, Row, recordsOf}
+use Rattle.row.specs.Row.{fromSecond, sourceOf, layerIn, nothing, whenRead, recordFrom, recordAt, recordOf, AtPlaces, Stands, Row, recordsOf}
 
 -- ---- the register that a word belongs to
 pub source-first : (s u : List ℕ) (w : ℕ) → w < 2 ^ 60 → sourceOf s u w ≡ s
@@ -73,7 +74,7 @@ record-at {s} {x} v w p e =
     (record-there s (x .entry) (v .past) (v .spells) (v .before) (v .reads) (length s) (v .first) [] (omega (arith, v .start .ahead)) (v .steps)
     ∙ rw (v .key, v .val))
 
-pub word-record : {s u : List ℕ} {w : ℕ} (v : Stands s u w) → recordOf s u w ≡ v .slot .item
+pub word-record : {s u : List ℕ} {w : ℕ} (v : AtPlaces s u w) → recordOf s u w ≡ v .slot .item
 unfolding recordOf
 word-record {w} v = record-at (v .there) w (v .page) (v .entry)
 
@@ -117,7 +118,7 @@ leads-first s u w h = record { source = source-first s u w (omega arith); page =
 leads-second : (s u : List ℕ) (w : ℕ) → LeadsAs s u u (w + 2 ^ 60) w
 leads-second s u w = record { source = source-second s u (w + 2 ^ 60) (omega arith); page = omega arith; entry = omega arith; layer = λ g. omega arith }
 
-lawful-slot : (xs : List Slot) → lawfulSlots xs ≡ true → (i : ℕ) → i < length xs → lawful (keyOf (getD xs i blank)) ≡ true
+pub lawful-slot : (xs : List Slot) → lawfulSlots xs ≡ true → (i : ℕ) → i < length xs → lawful (keyOf (getD xs i blank)) ≡ true
 unfolding lawfulSlots
 lawful-slot [] e i h = absurd (omega arith)
 lawful-slot (x ∷ xs) e zero h = and-inv (lawful (keyOf x)) e .0
@@ -140,7 +141,7 @@ module _ (v index : List ℕ) (t : SpeltTree) (count : ℕ) (bytes : Bytes v) (j
     slot = getD (slots 0 0 t) i blank
 
     word : WordOf (getD index i 0) slot
-    unfolding Indexes
+    unfolding HoldsWords
     word = index-of i within (omega arith)
 
     there : SlotAt v slot
@@ -156,12 +157,14 @@ module _ (v index : List ℕ) (t : SpeltTree) (count : ℕ) (bytes : Bytes v) (j
     module _ {s u : List ℕ} {w : ℕ} (leads : LeadsAs s u v w (getD index i 0)) where
       leads-stands : Stands s u w
       leads-stands = record {
-        slot = slot;
-        there = rw (leads .source) there;
-        page = leads .page ∙ word .page;
-        entry = leads .entry ∙ word .entry;
+        held = record {
+          slot = slot;
+          there = rw (leads .source) there;
+          page = leads .page ∙ word .page;
+          entry = leads .entry ∙ word .entry;
+          lawful = keeps-rule;
+        };
         layer = leads .layer word-small ∙ word .layer keeps-rule;
-        lawful = keeps-rule;
       }
 
       leads-record : recordOf s u w ≡ getD (records t) i nothing

@@ -23,7 +23,7 @@ use Rattle.tree.specs.Place.{places}
 use Rattle.tree.proofs.Laws.{Fitting, all-lawful, accepted-table}
 use Rattle.index.specs.Slot.{Slot, slots, keyOf}
 use Rattle.index.specs.Buffer.{HoldsKey}
-use Rattle.index.specs.Walk.{WordOf, blank, Indexes}
+use Rattle.index.specs.Walk.{WordOf, blank, HoldsWords, Indexes}
 use Rattle.index.proofs.Buffers.{holds-whole}
 use Rattle.index.proofs.SlotLaws.{slots-length, slots-places, slot-record, slot-place}
 use Rattle.index.proofs.Standing.{accepted-slot-stands}
@@ -151,7 +151,7 @@ module _ (s index : List ℕ) (count : ℕ) (k : List ℕ) where
         slot = getD (slots 0 0 t) middle blank
 
         word : WordOf (getD index middle 0) slot
-        unfolding Indexes
+        unfolding HoldsWords
         word = x middle there (omega arith)
 
         fetched : Fetched s slot (accepted-slot-stands s t bytes a middle there) buffer found

@@ -14,7 +14,7 @@ use Rattle.page.specs.declared.reading.NumberRead.{NumberRead}
 use Rattle.page.specs.declared.reading.NumberRead.the-variants.{Number, NumberStop}
 use Rattle.index.specs.Slot.{Slot}
 use Rattle.index.specs.Buffer.{HoldsKey, Extended}
-use Rattle.index.specs.Walk.{pageIn, entryIn}
+use Rattle.index.specs.Word.{pageIn, entryIn}
 use Rattle.index.specs.Standing.{SlotAt}
 use Rattle.index.proofs.Buffers.{holds-none}
 use Rattle.index.proofs.Standing.{same-end, read-not-stopped, steps-ahead, steps-done, steps-next, steps-read, steps-split, slot-steps, slot-key, slot-value}

@@ -4,7 +4,7 @@ use mathlib.Core.Path.{_≡_}
 use mathlib.Core.List.{List}
 use Rattle.index.specs.Slot.{Slot, keyOf}
 use Rattle.index.specs.Buffer.{HoldsKey}
-use Rattle.index.specs.Walk.{pageIn, entryIn}
+use Rattle.index.specs.Word.{pageIn, entryIn}
 use Rattle.index.specs.Standing.{Steps, SlotAt}
 use Rattle.row.specs.Memory.{NoteHolds}
 use Rattle.row.specs.declared.fetch.Found.{Found}

@@ -5,7 +5,7 @@ use mathlib.Core.List.{List, []}
 use lib.ListN.{length, take, drop, getD}
 use Rattle.page.specs.Place.{Reads, pageStart}
 use Rattle.index.specs.Buffer.{HoldsKey}
-use Rattle.index.specs.Walk.{pageIn, entryIn}
+use Rattle.index.specs.Word.{pageIn, entryIn}
 use Rattle.index.specs.Standing.{Steps}
 use Rattle.row.specs.Row.{sourceOf, recordOf}
 use Rattle.row.specs.declared.recall.Recalled.{Recalled}

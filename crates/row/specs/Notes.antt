@@ -2,7 +2,7 @@
 use Prim.Native.Nat.{ℕ, _/_, _^_}
 use mathlib.Core.Path.{_≡_}
 use mathlib.Core.List.{List}
-use Rattle.index.specs.Walk.{pageIn, entryIn}
+use Rattle.index.specs.Word.{pageIn, entryIn}
 use Rattle.row.specs.Row.{sourceOf}
 use Rattle.row.specs.Memory.{sizeIn, NoteHolds}
 

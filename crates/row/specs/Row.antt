@@ -12,7 +12,7 @@ use Rattle.page.specs.Page.{RawEntry, entry}
 use Rattle.page.specs.Place.{pageStart}
 use Rattle.tree.specs.Record.{Record}
 use Rattle.index.specs.Slot.{Slot, keyOf}
-use Rattle.index.specs.Walk.{pageIn, entryIn}
+use Rattle.index.specs.Word.{pageIn, entryIn}
 use Rattle.index.specs.Standing.{keyAfter, SlotAt}
 
 -- A word of a row is a word of the first register's index, or 2^60 more than one of the second's.
@@ -51,14 +51,18 @@ recordAt s w =
 unfoldable pub recordOf : List ℕ → List ℕ → ℕ → Record
 recordOf s u w = recordAt (sourceOf s u w) w
 
--- A record with a lawful key stands at the places in a word, and the word has the layer of its key.
-pub record Stands (s u : List ℕ) (w : ℕ) : Type 0 where
+-- A record with a lawful key stands at the places in a word.
+pub record AtPlaces (s u : List ℕ) (w : ℕ) : Type 0 where
   pub slot : Slot
   pub there : SlotAt (sourceOf s u w) slot
   pub page : pageIn w ≡ slot .page
   pub entry : entryIn w ≡ slot .entry
-  pub layer : layerIn w ≡ layerOf (keyOf slot)
   pub lawful : lawful (keyOf slot) ≡ true
+
+-- The same, and the word has the layer of its key.
+pub record Stands (s u : List ℕ) (w : ℕ) : Type 0 where
+  pub held : AtPlaces s u w
+  pub layer : layerIn w ≡ layerOf (keyOf (held .slot))
 
 -- The first n words of a row stand for records.
 pub record Row (s u row : List ℕ) (n : ℕ) : Type 0 where

@@ -2,7 +2,7 @@
 use crate::fetch::fetch_of;
 ghost use Prim.Native.Nat.{_+_, _≤_, _<_, _^_};
 ghost use lib.ListN.{length};
-ghost use Rattle.row.specs.Row.{Stands};
+ghost use Rattle.row.specs.Row.{AtPlaces};
 ghost use Rattle.row.specs.Memory.{Remembers, Recalls};
 ghost use Rattle.row.specs.Notes.{NoteFor, NoteOf};
 
@@ -55,7 +55,7 @@ pub fn recall(
     keys: &mut [u8],
     notes: &mut [u64],
 ) -> Recalled
-    requires { ⌜ (length (now s) < 2 ^ 24) × (length (now u) < 2 ^ 24) × Stands (now s) (now u) word × Remembers (now s) (now u) (now keys) (now notes) × (base + 64 ≤ length (now notes)) × (length (now notes) ≤ 256) ⌝ }
+    requires { ⌜ (length (now s) < 2 ^ 24) × (length (now u) < 2 ^ 24) × AtPlaces (now s) (now u) word × Remembers (now s) (now u) (now keys) (now notes) × (base + 64 ≤ length (now notes)) × (length (now notes) ≤ 256) ⌝ }
     ensures { λ r. ⌜ Recalls (now (s .entry)) (now (u .entry)) word (now (keys .exit)) (now (notes .exit)) r ⌝ }
 {
     let slot = base + slot_of(word);

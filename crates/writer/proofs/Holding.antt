@@ -36,7 +36,8 @@ module _ {s u : List ℕ} {w : ℕ} {keys notes : List ℕ} {r : Recalled} (c : 
   key-short = omega (arith, length-take (r .from + r .size - r .from) (drop (r .from) keys), c .short)
 
 pub val-length : {s u : List ℕ} {w : ℕ} → Stands s u w → length (recordOf s u w .val) ≡ 32
-val-length {s} {u} {w} v =
+val-length {s} {u} {w} stands =
+    let v = stands .held in
     let k : 32 ≤ length (drop (v .slot .value) (sourceOf s u w)) = omega (arith, value-within (v .there), length-drop (v .slot .value) (sourceOf s u w)) in
     rw (word-record v, ← v .there .bytes) (length-take-le 32 (drop (v .slot .value) (sourceOf s u w)) k)
 

@@ -4,6 +4,7 @@ pub mod Clearing
 pub mod Holding
 pub mod Measures
 pub mod Turns
+pub mod Labels
 pub mod Gaps
 pub mod Sites
 pub mod Whole

@@ -12,11 +12,11 @@ use Rattle.page.proofs.Sizes.{length-entry, length-page-start, length-page-end}
 use Rattle.tree.specs.Tree.{Placed, gapOf, build}
 use Rattle.tree.specs.Record.{Record, spelt, speltUnder}
 use Rattle.tree.specs.Table.{linkOf, bytesOfPage, digestOf}
-use Rattle.row.specs.Row.{layerIn, recordOf, Stands}
+use Rattle.row.specs.Row.{layerIn, Stands}
 use Rattle.row.specs.declared.recall.Recalled.{Recalled}
 use Rattle.writer.specs.Build.{recordIn, span, gapFor, pageAt}
 use Rattle.writer.specs.Wrote.{Holding, Run, hasPage, Sized}
-use Rattle.writer.proofs.Ranges.{entriesAt, bytesOf, countOf, linkTo, cuts, no-bytes, no-count, bytes-turn, count-turn, count-is, page-length}
+use Rattle.writer.proofs.Ranges.{entriesAt, bytesOf, countOf, linkTo, record-item, record-layer, cuts, no-bytes, no-count, bytes-turn, count-turn, count-is, page-length}
 use Rattle.writer.proofs.Holding.{keyIn, Taken, key-is, val-length, holds-on, held-is}
 
 -- ---- links below
@@ -63,24 +63,19 @@ module _ {s u row : List ℕ} {n first hi : ℕ} {keys notes previous : List ℕ
       (t : Taken s u (getD row i 0) keys notes previous keys′ notes′ previous′ held held′ r) (v : Stands s u (getD row i 0)) (h : i < hi)
       (next : ℕ) (w : Run row n (i + 1) hi next) (linked : Bool) (el : linked ≡ hasPage n (next - (i + 1)))
       (len : ℕ) (en : (len ≡ entryLength (take held previous) (keyIn r keys′) linked) × (len ≤ 400)) where
-    item-is : f i .item ≡ recordOf s u (getD row i 0)
-    unfolding recordIn
-    item-is = refl
-
     layer-is : f i .layer ≡ n
-    unfolding recordIn
-    layer-is = m .here h
+    layer-is = record-layer s u row i ∙ m .here h
 
     same-key : take held′ previous′ ≡ f i .item .key
-    same-key = held-is t ∙ ap (λ (x : Record). x .key) (sym item-is)
+    same-key = held-is t ∙ ap (λ (x : Record). x .key) (sym (record-item s u row i))
 
     abbrev bytes : List ℕ
     bytes = entryBytes (entryAfter (take held previous) (f i .item .key) (linkTo (gapFor n (span f (i + 1) (next - (i + 1))))) (f i .item .val))
 
     one-length : length bytes ≡ len
     one-length =
-        entry-size n f (i + 1) (next - (i + 1)) (take held previous) (f i .item .key) (f i .item .val) (ap (λ (x : Record). length (x .val)) item-is ∙ val-length v)
-        ∙ rw (item-is, ← key-is (t .recalls), ← el) (sym (en .0))
+        entry-size n f (i + 1) (next - (i + 1)) (take held previous) (f i .item .key) (f i .item .val) (ap (λ (x : Record). length (x .val)) (record-item s u row i) ∙ val-length v)
+        ∙ rw (record-item s u row i, ← key-is (t .recalls), ← el) (sym (en .0))
 
     more-bytes : length (bytesOf (take held previous) (entriesAt n f i hi)) ≡ len + length (bytesOf (take held′ previous′) (entriesAt n f next hi))
     more-bytes =

@@ -5,7 +5,7 @@ use mathlib.Core.Option.{Option}
 use mathlib.Core.List.{List, [], _∷_, _++_, append-assoc}
 use native.Mathlib.Omega.{arith}
 use native.Mathlib.Numerals.{add-one}
-use lib.ListN.{length, length-append}
+use lib.ListN.{length, getD, length-append}
 use borrow.Author.Tests.{eq-eqb, ne-eqb}
 use Rattle.page.specs.Reading.{concat}
 use Rattle.page.specs.Page.{entryBytes}
@@ -14,6 +14,7 @@ use Rattle.page.proofs.Sizes.{page-parts}
 use Rattle.tree.specs.Tree.{Page, page, Gap, Entries, end, entry, Placed, Parted, part, entriesOf, pageOf, build}
 use Rattle.tree.specs.Record.{Record, spelt, speltUnder, speltFrom}
 use Rattle.tree.specs.Table.{linkOf, rawEntries, rawPage, bytesOfPage, table, tableUnder, tableFrom, digestOf}
+use Rattle.row.specs.Row.{layerIn, recordOf}
 use Rattle.writer.specs.Build.{recordIn, span, gapFor}
 use Rattle.writer.specs.Wrote.{Run}
 
@@ -37,6 +38,15 @@ linkTo g = linkOf (speltUnder g)
 
 abbrev pub tableIn : Gap Record (List ℕ) → List ℕ
 tableIn g = tableUnder (speltUnder g)
+
+-- ---- a record of the row
+pub record-item : (s u row : List ℕ) (i : ℕ) → recordIn s u row i .item ≡ recordOf s u (getD row i 0)
+unfolding recordIn
+record-item s u row i = refl
+
+pub record-layer : (s u row : List ℕ) (i : ℕ) → recordIn s u row i .layer ≡ layerIn (getD row i 0)
+unfolding recordIn
+record-layer s u row i = refl
 
 -- ---- a row parted
 -- lo to r are no records of layer n, and r is one or the end

@@ -19,7 +19,7 @@ use Rattle.writer.specs.Wrote.{Ready, Holding, EntryDone, Written, GapDo
 use Rattle.writer.specs.declared.pages.Below.{Below}
 use Rattle.writer.specs.declared.pages.Added.{Added}
 use Rattle.writer.specs.declared.pages.Size.{Size}
-use Rattle.writer.proofs.Ranges.{entriesAt, bytesOf, countOf, tablesOf, linkTo, tableIn, Cuts, cuts, count-is, page-length, table-length}
+use Rattle.writer.proofs.Ranges.{entriesAt, bytesOf, countOf, tablesOf, linkTo, tableIn, record-item, record-layer, Cuts, cuts, count-is, page-length, table-length}
 use Rattle.writer.proofs.Holding.{val-length}
 use Rattle.writer.proofs.Turns.{lent-length, back-length, fromStart, Turn, same-behind, first-turn, entry-own, below-more, entry-room, next-turn, foot-room, all-written}
 use Rattle.writer.proofs.Gaps.{gap-lacks, gap-done, gap-fits}
@@ -162,13 +162,8 @@ module _ {s u row : List ℕ} {lo hi n own first tail₀ : ℕ} {x keys notes ou
   abbrev f : ℕ → Placed Record
   f = recordIn s u row
 
-  item-is : f i .item ≡ recordOf s u (getD row i 0)
-  unfolding recordIn
-  item-is = refl
-
   layer-is : f i .layer ≡ n
-  unfolding recordIn
-  layer-is = c .going .here (c .test)
+  layer-is = record-layer s u row i ∙ c .going .here (c .test)
 
   parted-i : Cuts f n (i + 1) hi next
   parted-i = cuts s u row n (i + 1) hi next (c .run)
@@ -198,7 +193,7 @@ module _ {s u row : List ℕ} {lo hi n own first tail₀ : ℕ} {x keys notes ou
       coded = entryBytes (entryAfter (take held previous) (recordOf s u (getD row i 0) .key) (linkIf (w .linked) (w .digest)) (recordOf s u (getD row i 0) .val))
 
       same : coded ≡ entryBytes (entryAfter (take held previous) (f i .item .key) (linkTo gap-i) (f i .item .val))
-      same = rw (item-is, child-done .link)
+      same = rw (record-item s u row i, child-done .link)
 
       coded-length : length coded ≡ entryLength (take held previous) (recordOf s u (getD row i 0) .key) (w .linked)
       coded-length =
@@ -228,7 +223,7 @@ module _ {s u row : List ℕ} {lo hi n own first tail₀ : ℕ} {x keys notes ou
           same = back-length at (back tail out ys) zs (omega (arith, child-length, c .going .inside, c .going .behind, c .going .fits, c .going .same)) kept ∙ child-length ∙ c .going .same;
           here = c .run .stop;
           turn =
-              turn-by (omega (arith, d .size, ap length same)) (omega (arith, child-done .size)) (d .key ∙ ap (λ (y : Record). y .key) (sym item-is))
+              turn-by (omega (arith, d .size, ap length same)) (omega (arith, child-done .size)) (d .key ∙ ap (λ (y : Record). y .key) (sym (record-item s u row i)))
               (next-turn (c .going .turn) (c .test) layer-is parted-i (c .whole) ys (child-done .wrote) zs coded same (d .wrote));
         }
 
@@ -249,7 +244,7 @@ module _ {s u row : List ℕ} {lo hi n : ℕ} {o : List ℕ} {z : Size} {first :
   last-room = foot-room (parted (e .begun)) (e .going .turn) (e .test) (e .begun .sized .own) (w .linked) (w .digest) (left .whole) (left .link)
 
   pub finishes : (zs : List ℕ) → zs ≡ front (pageEndBytes (linkIf (w .linked) (w .digest))) (lent at out) → drop (z .own + w .len) x ≡ drop (z .own + w .len) o
-      → Written (pageAt s u row lo hi n) o (back at out zs) (record { room = true; len = tail; own = z .own })
+      → Written (pageAt s u row lo hi n) o (back at out zs) (record { room = true; len = tail; own = z .own; first = first })
   finishes zs ez st =
       all-written (parted (e .begun)) (e .going .turn) (e .test) (e .begun .sized .own) (w .linked) (w .digest) (left .whole) (left .link)
       o zs ez (z .own + w .len) (e .going .grown) st (omega (arith, e .going .fits, e .same))

@@ -226,7 +226,7 @@ module _ {f : ℕ → Placed Record} {n lo hi first own at tail i : ℕ} (c : Cu
         (sym (append-assoc (bytesOfPage (spelt tree)) (tableIn (gapFor n (span f lo (first - lo))) ++ tablesOf [] (entriesAt n f first hi)) (drop (length (table (spelt tree))) o₀))
         ∙ rw (table-is n f lo hi first c))
 
-    pub all-written : tail ≤ length o₀ → Written tree o₀ (back at out zs) (record { room = true; len = tail; own = own })
+    pub all-written : tail ≤ length o₀ → Written tree o₀ (back at out zs) (record { room = true; len = tail; own = own; first = first })
     all-written fits =
         let k : length (table (spelt tree)) ≤ length o₀ = omega (arith, total) in
         record { room = sym (le-leb (length (table (spelt tree))) (length o₀) k); done = record { wrote = table-wrote; size = total; first = whole } }

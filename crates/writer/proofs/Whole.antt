@@ -32,7 +32,7 @@ use Rattle.writer.proofs.Gaps.{table-done, table-fits}
 record-placed : (s u row : List ℕ) (i : ℕ) → Stands s u (getD row i 0) → recordIn s u row i ≡ placed (recordOf s u (getD row i 0))
 unfolding recordIn
 record-placed s u row i v =
-    let e : layerIn (getD row i 0) ≡ layerOf (recordOf s u (getD row i 0) .key) = v .layer ∙ ap (λ (r : Record). layerOf (r .key)) (sym (word-record v)) in
+    let e : layerIn (getD row i 0) ≡ layerOf (recordOf s u (getD row i 0) .key) = v .layer ∙ ap (λ (r : Record). layerOf (r .key)) (sym (word-record (v .held))) in
     rw e
 
 span-placed : (s u row : List ℕ) (m i : ℕ) → i + m ≤ length row → ((j : ℕ) → i ≤ j → j < i + m → Stands s u (getD row j 0))

@@ -1,3 +1,4 @@
 pub mod Build
 pub mod Wrote
+pub mod Label
 pub mod Output

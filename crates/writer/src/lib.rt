@@ -1,4 +1,5 @@
 // The writer: the table of a row of records. The functions are for the crates above and no public calls.
+mod digests; // the digests of pages
 mod pages; // the recursion over the pages
 pub mod output; // outputs
 
@@ -12,6 +13,7 @@ ghost use Prim.Native.Nat.{min};
 ghost use lib.ListN.{length};
 ghost use Rattle.sha256.specs.Digest.{longest};
 ghost use Rattle.tree.specs.Table.{tableOf};
+ghost use Rattle.index.specs.Chain.{Labelled};
 ghost use Rattle.row.specs.Row.{Row, recordsOf};
 ghost use Rattle.writer.specs.Output.{tableAnswer, tableOutput};
 
@@ -26,8 +28,18 @@ fn used(n: usize) -> usize
 }
 
 // The table of the first n records of a row, and zeros after it; where it does not fit, number 13 and zeros.
-pub fn write_table(s: &[u8], u: &[u8], row: &[u64], n: usize, out: &mut [u8]) -> Answer
-    requires { ⌜ Row (now s) (now u) (now row) n ⌝ }
+pub fn write_table(
+    s: &[u8],
+    u: &[u8],
+    first_chains: &[u64],
+    first_count: usize,
+    second_chains: &[u64],
+    second_count: usize,
+    row: &[u64],
+    n: usize,
+    out: &mut [u8],
+) -> Answer
+    requires { ⌜ Row (now s) (now u) (now row) n × Labelled (now s) (now «first_chains») «first_count» × Labelled (now u) (now «second_chains») «second_count» ⌝ }
     ensures answer { λ r. ⌜ r ≡ tableAnswer (tableOf (recordsOf (now (s .entry)) (now (u .entry)) (now (row .entry)) n)) (length (now (out .entry))) ⌝ }
     ensures output { λ _. ⌜ now (out .exit) ≡ tableOutput (tableOf (recordsOf (now (s .entry)) (now (u .entry)) (now (row .entry)) n)) (length (now (out .entry))) ⌝ }
 {
@@ -39,6 +51,10 @@ pub fn write_table(s: &[u8], u: &[u8], row: &[u64], n: usize, out: &mut [u8]) ->
     let w = write_page(
         s,
         u,
+        first_chains,
+        first_count,
+        second_chains,
+        second_count,
         row,
         0,
         n,

@@ -1,4 +1,5 @@
 // The recursion over the pages of a table.
+use crate::digests::page_digest;
 use page::writing::entry_length;
 use page::writing::page_end_length;
 use page::writing::page_start_length;
@@ -7,7 +8,6 @@ use page::writing::write_page_end;
 use page::writing::write_page_start;
 use row::bytes::value_of;
 use row::recall::recall;
-use sha256::digest_of;
 ghost use mathlib.Core.Path.{_≡_};
 ghost use mathlib.Core.Bool.{false};
 ghost use mathlib.Core.List.{List};
@@ -16,16 +16,19 @@ ghost use lib.ListN.{length, take};
 ghost use Rattle.fips180.specs.Hash.{zeros};
 ghost use Rattle.page.specs.Front.{front, linkIf, entryLength};
 ghost use Rattle.tree.specs.Tree.{topLayer};
+ghost use Rattle.index.specs.Chain.{Labelled};
 ghost use Rattle.row.specs.Row.{layerIn, recordOf, Stands};
 ghost use Rattle.row.specs.Memory.{Remembers};
 ghost use Rattle.writer.specs.Build.{recordIn, span, pageAt, gapAt};
 ghost use Rattle.writer.specs.Wrote.{Ready, Holding, EntryDone, Run, hasPage, Sized, Written, GapWritten};
 
-// The lengths of a table and of its first page, or that there is no room for it.
+// The lengths of a table and of its first page, and the position in the row of that page's first entry, which is the end of its records where
+// it has no entries; or that there is no room for the table.
 pub struct Wrote {
     pub room: bool,
     pub len: usize,
     pub own: usize,
+    pub first: usize,
 }
 
 // The same of a gap, whether it has a page, and that page's digest.
@@ -188,6 +191,7 @@ fn no_room() -> Wrote
         room: false,
         len: 0,
         own: 0,
+        first: 0,
     }
 }
 
@@ -207,6 +211,10 @@ fn nothing_below(room: bool) -> Below
 pub fn write_page(
     s: &[u8],
     u: &[u8],
+    first_chains: &[u64],
+    first_count: usize,
+    second_chains: &[u64],
+    second_count: usize,
     row: &[u64],
     lo: usize,
     hi: usize,
@@ -215,7 +223,7 @@ pub fn write_page(
     notes: &mut [u64],
     out: &mut [u8],
 ) -> Wrote
-    requires { ⌜ Ready (now s) (now u) (now row) (now keys) (now notes) lo hi ⌝ }
+    requires { ⌜ Ready (now s) (now u) (now row) (now keys) (now notes) lo hi × Labelled (now s) (now «first_chains») «first_count» × Labelled (now u) (now «second_chains») «second_count» ⌝ }
     ensures table { λ r. ⌜ Written (pageAt (now (s .entry)) (now (u .entry)) (now (row .entry)) lo hi layer) (now (out .entry)) (now (out .exit)) r ⌝ }
     ensures memory { λ _. ⌜ Remembers (now (s .entry)) (now (u .entry)) (now (keys .exit)) (now (notes .exit)) ⌝ }
 {
@@ -225,7 +233,21 @@ pub fn write_page(
         return no_room();
     }
     let first = run_end(row, lo, hi, layer);
-    let left = write_gap(s, u, row, lo, first, layer, keys, notes, &mut out[own..]);
+    let left = write_gap(
+        s,
+        u,
+        first_chains,
+        first_count,
+        second_chains,
+        second_count,
+        row,
+        lo,
+        first,
+        layer,
+        keys,
+        notes,
+        &mut out[own..],
+    );
     if !left.room {
         return no_room();
     }
@@ -236,7 +258,21 @@ pub fn write_page(
     let mut i = first;
     while i < hi {
         let next = run_end(row, i + 1, hi, layer);
-        let w = write_gap(s, u, row, i + 1, next, layer, keys, notes, &mut out[tail..]);
+        let w = write_gap(
+            s,
+            u,
+            first_chains,
+            first_count,
+            second_chains,
+            second_count,
+            row,
+            i + 1,
+            next,
+            layer,
+            keys,
+            notes,
+            &mut out[tail..],
+        );
         if !w.room {
             return no_room();
         }
@@ -264,6 +300,7 @@ pub fn write_page(
         room: true,
         len: tail,
         own,
+        first,
     }
 }
 
@@ -271,6 +308,10 @@ pub fn write_page(
 fn write_gap(
     s: &[u8],
     u: &[u8],
+    first_chains: &[u64],
+    first_count: usize,
+    second_chains: &[u64],
+    second_count: usize,
     row: &[u64],
     lo: usize,
     hi: usize,
@@ -279,19 +320,44 @@ fn write_gap(
     notes: &mut [u64],
     out: &mut [u8],
 ) -> Below
-    requires { ⌜ Ready (now s) (now u) (now row) (now keys) (now notes) lo hi ⌝ }
+    requires { ⌜ Ready (now s) (now u) (now row) (now keys) (now notes) lo hi × Labelled (now s) (now «first_chains») «first_count» × Labelled (now u) (now «second_chains») «second_count» ⌝ }
     ensures tables { λ r. ⌜ GapWritten (gapAt (now (s .entry)) (now (u .entry)) (now (row .entry)) lo hi layer) (now (out .entry)) (now (out .exit)) r ⌝ }
     ensures memory { λ _. ⌜ Remembers (now (s .entry)) (now (u .entry)) (now (keys .exit)) (now (notes .exit)) ⌝ }
 {
     if !has_page(lo, hi, layer) {
         return nothing_below(true);
     }
-    let w = write_page(s, u, row, lo, hi, layer - 1, keys, notes, out);
+    let w = write_page(
+        s,
+        u,
+        first_chains,
+        first_count,
+        second_chains,
+        second_count,
+        row,
+        lo,
+        hi,
+        layer - 1,
+        keys,
+        notes,
+        out,
+    );
     if !w.room {
         return nothing_below(false);
     }
     let own = w.own;
-    let digest = digest_of(&out[..own]);
+    let digest = page_digest(
+        s,
+        u,
+        first_chains,
+        first_count,
+        second_chains,
+        second_count,
+        row,
+        w.first,
+        hi,
+        &out[..own],
+    );
     Below {
         room: true,
         linked: true,

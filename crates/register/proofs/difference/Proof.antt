@@ -1,7 +1,7 @@
 use native.Mathlib.Omega.{arith}
 use lib.ListN.{length}
 use Rattle.page.proofs.Tools.{bytes-of}
-use Rattle.register.proofs.Verdicts.{accepted-index, judged-refused, accepted-few}
+use Rattle.register.proofs.Verdicts.{accepted-index, accepted-chains, judged-refused, accepted-few}
 use Rattle.register.proofs.Differing.{first-refused, second-refused}
 use borrow.Author.Needs.{needs}
 use Rattle.register.proofs.difference.Statement.{statement}
@@ -10,14 +10,20 @@ use Rattle.register.proofs.difference.Tie as tie
 slice-aggregate-judge : tie.Need-slice-aggregate-judge
 slice-aggregate-judge c = search needs
 
+slice-aggregate-judge-2 : tie.Need-slice-aggregate-judge-2
+slice-aggregate-judge-2 c = search needs
+
 judge-requires : tie.Need-judge-requires
 judge-requires c κs = search needs
 
 enum-known-n : tie.Need-enum-known-n
 enum-known-n c = search needs
 
-slice-aggregate-judge-2 : tie.Need-slice-aggregate-judge-2
-slice-aggregate-judge-2 c = search needs
+slice-aggregate-judge-3 : tie.Need-slice-aggregate-judge-3
+slice-aggregate-judge-3 c = search needs
+
+slice-aggregate-judge-4 : tie.Need-slice-aggregate-judge-4
+slice-aggregate-judge-4 c = search needs
 
 judge-requires-2 : tie.Need-judge-requires-2
 judge-requires-2 c κs = search needs
@@ -31,16 +37,24 @@ slice-aggregate-differ c = search needs
 slice-aggregate-differ-2 : tie.Need-slice-aggregate-differ-2
 slice-aggregate-differ-2 c = search needs
 
+slice-aggregate-differ-3 : tie.Need-slice-aggregate-differ-3
+slice-aggregate-differ-3 c = search needs
+
+slice-aggregate-differ-4 : tie.Need-slice-aggregate-differ-4
+slice-aggregate-differ-4 c = search needs
+
 differ-requires : tie.Need-differ-requires
 differ-requires c κs =
-    let a = c .before .before .before .before .before .before .before .before .before .before .before .before .before .before .before .before .before .before .args in
-    let j = c .before .before .before .before .before .before .before .before .before .before .before .before .before .judge in
-    let k = c .before .before .before .before .before .before .before .judge2 in
-    let first = accepted-index (a .first .now) _ (j .result) (j .ensures) (c .before .before .before .before .before .before .before .before .before .before .n .given .1) in
-    let second = accepted-index (a .second .now) _ (k .result) (k .ensures) (c .before .before .before .before .m .given .1) in
-    let few = accepted-few (bytes-of (a .first .now) (λ i h. omega (arith, c .before .before .before .before .before .before .before .before .before .before .before .before .before .before .before .before .before .shared-slice-known .given i))) first in
-    let others = accepted-few (bytes-of (a .second .now) (λ i h. omega (arith, c .before .before .before .before .before .before .before .before .before .before .before .before .before .before .before .before .shared-slice-known2 .given i))) second in
-    (first, second, omega (arith, j .kept), omega (arith, k .kept))
+    let a = c .before .before .before .before .before .before .before .before .before .before .before .before .before .before .before .before .before .before .before .before .before .before .before .before .args in
+    let j = c .before .before .before .before .before .before .before .before .before .before .before .before .before .before .before .before .before .before .judge in
+    let k = c .before .before .before .before .before .before .before .before .before .before .judge2 in
+    let first = accepted-index (a .first .now) _ _ (j .result) (j .ensures) (c .before .before .before .before .before .before .before .before .before .before .before .before .before .before .n .given .1) in
+    let second = accepted-index (a .second .now) _ _ (k .result) (k .ensures) (c .before .before .before .before .before .before .m .given .1) in
+    let few = accepted-few (bytes-of (a .first .now) (λ i h. omega (arith, c .before .before .before .before .before .before .before .before .before .before .before .before .before .before .before .before .before .before .before .before .before .before .before .shared-slice-known .given i))) first in
+    let others = accepted-few (bytes-of (a .second .now) (λ i h. omega (arith, c .before .before .before .before .before .before .before .before .before .before .before .before .before .before .before .before .before .before .before .before .before .before .shared-slice-known2 .given i))) second in
+    let chains = accepted-chains (a .first .now) _ _ (j .result) (j .ensures) (c .before .before .before .before .before .before .before .before .before .before .before .before .before .before .n .given .1) in
+    let other-chains = accepted-chains (a .second .now) _ _ (k .result) (k .ensures) (c .before .before .before .before .before .before .m .given .1) in
+    (first, second, chains, other-chains, omega (arith, j .kept), omega (arith, k .kept), omega (arith, k .kept))
 
 enum-known-refusal : tie.Need-enum-known-refusal
 enum-known-refusal c = search needs
@@ -65,33 +79,37 @@ same-length-2 c = search needs
 
 returns-2 : tie.Need-returns-2
 returns-2 c =
-    let a = c .before .before .before .before .before .before .before .before .before .before .before .before .before .before .before .before .before .before .before .args in
-    let j = c .before .before .before .before .before .before .before .before .before .before .before .before .before .before .judge in
-    let k = c .before .before .before .before .before .before .before .before .judge2 in
-    let first = accepted-index (a .first .now) _ (j .result) (j .ensures) (c .before .before .before .before .before .before .before .before .before .before .before .n .given .1) in
-    second-refused (a .first .now) (a .second .now) (length (a .out .now)) _ _ (c .before .before .clear .ensures) (first .tree) (first .judged) (judged-refused (a .second .now) _ (k .result) (k .ensures) (c .before .before .before .before .before .refusal .given .1))
+    let a = c .before .before .before .before .before .before .before .before .before .before .before .before .before .before .before .before .before .before .before .before .before .before .before .args in
+    let j = c .before .before .before .before .before .before .before .before .before .before .before .before .before .before .before .before .before .judge in
+    let k = c .before .before .before .before .before .before .before .before .before .judge2 in
+    let first = accepted-index (a .first .now) _ _ (j .result) (j .ensures) (c .before .before .before .before .before .before .before .before .before .before .before .before .before .n .given .1) in
+    second-refused (a .first .now) (a .second .now) (length (a .out .now)) _ _ (c .before .before .clear .ensures) (first .tree) (first .judged) (judged-refused (a .second .now) _ _ (k .result) (k .ensures) (c .before .before .before .before .before .refusal .given .1))
 
 same-length-3 : tie.Need-same-length-3
 same-length-3 c = search needs
 
 returns-3 : tie.Need-returns-3
 returns-3 c =
-    let a = c .before .before .before .before .before .before .before .before .before .before .before .before .before .args in
-    let j = c .before .before .before .before .before .before .before .before .judge in
-    first-refused (a .first .now) (a .second .now) (length (a .out .now)) _ _ (c .before .before .clear2 .ensures) (judged-refused (a .first .now) _ (j .result) (j .ensures) (c .before .before .before .before .before .refusal2 .given .1))
+    let a = c .before .before .before .before .before .before .before .before .before .before .before .before .before .before .before .args in
+    let j = c .before .before .before .before .before .before .before .before .before .judge in
+    first-refused (a .first .now) (a .second .now) (length (a .out .now)) _ _ (c .before .before .clear2 .ensures) (judged-refused (a .first .now) _ _ (j .result) (j .ensures) (c .before .before .before .before .before .refusal2 .given .1))
 
 pub difference-spec : {M : Type 1} → statement M
 difference-spec =
     tie.close
     (tie.spec
     slice-aggregate-judge
+    slice-aggregate-judge-2
     judge-requires
     enum-known-n
-    slice-aggregate-judge-2
+    slice-aggregate-judge-3
+    slice-aggregate-judge-4
     judge-requires-2
     enum-known-m
     slice-aggregate-differ
     slice-aggregate-differ-2
+    slice-aggregate-differ-3
+    slice-aggregate-differ-4
     differ-requires
     enum-known-refusal
     clear-requires

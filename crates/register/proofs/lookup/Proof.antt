@@ -8,6 +8,9 @@ use Rattle.register.proofs.lookup.Tie as tie
 slice-aggregate-judge : tie.Need-slice-aggregate-judge
 slice-aggregate-judge c = search needs
 
+slice-aggregate-judge-2 : tie.Need-slice-aggregate-judge-2
+slice-aggregate-judge-2 c = search needs
+
 judge-requires : tie.Need-judge-requires
 judge-requires c κs = search needs
 
@@ -31,18 +34,17 @@ slice-aggregate-search c = search needs
 
 search-requires : tie.Need-search-requires
 search-requires c κs =
-    let bytes = bytes-of (c .before .before .before .before .before .before .before .before .before .before .before .before .args .register .now)
-    (λ i h. omega (arith, c .before .before .before .before .before .before .before .before .before .before .before .shared-slice-known .given i)) in
-    let few = count-within _ _ _ (c .before .before .before .before .before .before .before .before .judge .ensures) _ (c .before .before .before .before .before .count .given .1) bytes in
-    omega (arith, few, c .before .before .before .before .before .before .before .before .judge .kept)
+    let bytes = bytes-of (c .before .before .before .before .before .before .before .before .before .before .before .before .before .before .args .register .now)
+    (λ i h. omega (arith, c .before .before .before .before .before .before .before .before .before .before .before .before .before .shared-slice-known .given i)) in
+    let few = count-within _ _ _ _ (c .before .before .before .before .before .before .before .before .before .judge .ensures) _ _ (c .before .before .before .before .before .count .given .1) bytes in
+    omega (arith, few, c .before .before .before .before .before .before .before .before .before .judge .kept)
 
 enum-known-place : tie.Need-enum-known-place
 enum-known-place c = search needs
 
-cast-t17 : tie.Need-cast-t17
-cast-t17 c =
-    let bytes = bytes-of (c .before .before .before .before .before .before .before .before .before .before .before .before .before .before .before .before .args .register .now)
-    (λ i h. omega (arith, c .before .before .before .before .before .before .before .before .before .before .before .before .before .before .before .shared-slice-known .given i)) in
+cast-t20 : tie.Need-cast-t20
+cast-t20 c =
+    let bytes = bytes-of (c .before .before .before .before .before .before .before .before .before .before .before .before .before .before .before .before .before .before .args .register .now) (λ i h. omega (arith, c .before .before .before .before .before .before .before .before .before .before .before .before .before .before .before .before .before .shared-slice-known .given i)) in
     search (needs, place-fits, bytes)
 
 enum-told-2 : tie.Need-enum-told-2
@@ -65,6 +67,7 @@ lookup-spec =
     tie.close
     (tie.spec
     slice-aggregate-judge
+    slice-aggregate-judge-2
     judge-requires
     enum-known-count
     slash-requires
@@ -74,7 +77,7 @@ lookup-spec =
     slice-aggregate-search
     search-requires
     enum-known-place
-    cast-t17
+    cast-t20
     enum-told-2
     enum-known-refusal-2
     returns-2

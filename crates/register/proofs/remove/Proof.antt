@@ -2,7 +2,8 @@ use borrow.Author.Needs.{needs}
 use mathlib.Core.Path.{sym, _∙_}
 use native.Mathlib.Omega.{arith}
 use Rattle.key.proofs.SlashLaws.{slash-done}
-use Rattle.register.proofs.Verdicts.{accepted-index, judged-refused}
+use Rattle.register.proofs.Verdicts.{accepted-index, accepted-chains, judged-refused}
+use Rattle.judge.proofs.Labels.{row-labelled}
 use Rattle.register.proofs.Writing.{remove-refused, remove-unlawful}
 use Rattle.register.proofs.Calls.{refuses, says-same, row-written, accepting, position-within, left-row, remove-done, absent-done}
 use Rattle.register.proofs.remove.Statement.{statement}
@@ -10,6 +11,9 @@ use Rattle.register.proofs.remove.Tie as tie
 
 slice-aggregate-judge : tie.Need-slice-aggregate-judge
 slice-aggregate-judge c = search needs
+
+slice-aggregate-judge-2 : tie.Need-slice-aggregate-judge-2
+slice-aggregate-judge-2 c = search needs
 
 judge-requires : tie.Need-judge-requires
 judge-requires c κs = search needs
@@ -31,7 +35,7 @@ same-length c = search needs
 
 returns : tie.Need-returns
 returns c =
-    let a = accepted-index _ _ _ (c .before .before .before .before .before .before .before .before .before .before .before .before .judge .ensures) (c .before .before .before .before .before .before .before .before .before .count .given .1) in
+    let a = accepted-index _ _ _ _ (c .before .before .before .before .before .before .before .before .before .before .before .before .before .judge .ensures) (c .before .before .before .before .before .before .before .before .before .count .given .1) in
     refuses _ _ _ (remove-unlawful _ _ _ (a .tree) (a .judged) (sym (c .before .before .before .before .before .before .before .slash .ensures) ∙ c .before .before .before .before .before .refusal .given .1)) (c .before .before .refuse .ensures .0) (c .before .before .refuse .ensures .1)
 
 enum-told : tie.Need-enum-told
@@ -42,7 +46,7 @@ slice-aggregate-search c = search needs
 
 search-requires : tie.Need-search-requires
 search-requires c κs =
-    let a = accepting _ _ _ (c .before .before .before .before .before .before .before .before .judge .ensures) (c .before .before .before .before .before .count .given .1) (λ i h. omega (arith, c .before .before .before .before .before .before .before .before .before .before .before .before .shared-slice-known .given i)) (c .before .before .before .before .before .before .before .before .judge .kept .1 .0) in
+    let a = accepting _ _ _ _ (c .before .before .before .before .before .before .before .before .before .judge .ensures) (c .before .before .before .before .before .count .given .1) (λ i h. omega (arith, c .before .before .before .before .before .before .before .before .before .before .before .before .before .before .shared-slice-known .given i)) (c .before .before .before .before .before .before .before .before .before .judge .kept .1 .0) in
     a .fits
 
 enum-known-position : tie.Need-enum-known-position
@@ -53,21 +57,28 @@ slice-aggregate-leave-out c = search needs
 
 leave-out-requires : tie.Need-leave-out-requires
 leave-out-requires c κs =
-    let a = accepting _ _ _ (c .before .before .before .before .before .before .before .before .before .before .before .before .before .judge .ensures) (c .before .before .before .before .before .before .before .before .before .before .count .given .1) (λ i h. omega (arith, c .before .before .before .before .before .before .before .before .before .before .before .before .before .before .before .before .before .shared-slice-known .given i)) (c .before .before .before .before .before .before .before .before .before .before .before .before .before .judge .kept .1 .0) in
+    let a = accepting _ _ _ _ (c .before .before .before .before .before .before .before .before .before .before .before .before .before .before .judge .ensures) (c .before .before .before .before .before .before .before .before .before .before .count .given .1) (λ i h. omega (arith, c .before .before .before .before .before .before .before .before .before .before .before .before .before .before .before .before .before .before .before .shared-slice-known .given i)) (c .before .before .before .before .before .before .before .before .before .before .before .before .before .before .judge .kept .1 .0) in
     (position-within a _ _ (c .before .before .before .before .search .ensures .0) _ _ (c .before .before .position .given .1), a .fits)
 
 slice-aggregate-write-table : tie.Need-slice-aggregate-write-table
 slice-aggregate-write-table c = search needs
 
+slice-aggregate-write-table-2 : tie.Need-slice-aggregate-write-table-2
+slice-aggregate-write-table-2 c = search needs
+
+slice-aggregate-write-table-3 : tie.Need-slice-aggregate-write-table-3
+slice-aggregate-write-table-3 c = search needs
+
 sub-write-table : tie.Need-sub-write-table
 sub-write-table c =
-    let a = accepting _ _ _ (c .before .before .before .before .before .before .before .before .before .before .before .before .before .before .before .before .judge .ensures) (c .before .before .before .before .before .before .before .before .before .before .before .before .before .count .given .1) (λ i h. omega (arith, c .before .before .before .before .before .before .before .before .before .before .before .before .before .before .before .before .before .before .before .before .shared-slice-known .given i)) (c .before .before .before .before .before .before .before .before .before .before .before .before .before .before .before .before .judge .kept .1 .0) in
-    omega (arith, position-within a _ _ (c .before .before .before .before .before .before .before .search .ensures .0) _ _ (c .before .before .before .before .before .position .given .1))
+    let a = accepting _ _ _ _ (c .before .before .before .before .before .before .before .before .before .before .before .before .before .before .before .before .before .before .before .judge .ensures) (c .before .before .before .before .before .before .before .before .before .before .before .before .before .before .before .count .given .1) (λ i h. omega (arith, c .before .before .before .before .before .before .before .before .before .before .before .before .before .before .before .before .before .before .before .before .before .before .before .before .shared-slice-known .given i)) (c .before .before .before .before .before .before .before .before .before .before .before .before .before .before .before .before .before .before .before .judge .kept .1 .0) in
+    omega (arith, position-within a _ _ (c .before .before .before .before .before .before .before .before .before .search .ensures .0) _ _ (c .before .before .before .before .before .before .before .position .given .1))
 
 write-table-requires : tie.Need-write-table-requires
 write-table-requires c κs =
-    let a = accepting _ _ _ (c .before .before .before .before .before .before .before .before .before .before .before .before .before .before .before .before .before .judge .ensures) (c .before .before .before .before .before .before .before .before .before .before .before .before .before .before .count .given .1) (λ i h. omega (arith, c .before .before .before .before .before .before .before .before .before .before .before .before .before .before .before .before .before .before .before .before .before .shared-slice-known .given i)) (c .before .before .before .before .before .before .before .before .before .before .before .before .before .before .before .before .before .judge .kept .1 .0) in
-    left-row a _ _ (c .before .before .before .before .before .before .before .before .search .ensures .0) _ _ (c .before .before .before .before .before .before .position .given .1) _ (c .before .before .before .leave-out .kept .0) (c .before .before .before .leave-out .ensures) .whole
+    let a = accepting _ _ _ _ (c .before .before .before .before .before .before .before .before .before .before .before .before .before .before .before .before .before .before .before .before .judge .ensures) (c .before .before .before .before .before .before .before .before .before .before .before .before .before .before .before .before .count .given .1) (λ i h. omega (arith, c .before .before .before .before .before .before .before .before .before .before .before .before .before .before .before .before .before .before .before .before .before .before .before .before .before .shared-slice-known .given i)) (c .before .before .before .before .before .before .before .before .before .before .before .before .before .before .before .before .before .before .before .before .judge .kept .1 .0) in
+    let labelled = row-labelled (accepted-chains _ _ _ _ (c .before .before .before .before .before .before .before .before .before .before .before .before .before .before .before .before .before .before .before .before .judge .ensures) (c .before .before .before .before .before .before .before .before .before .before .before .before .before .before .before .before .count .given .1)) in
+    (left-row a _ _ (c .before .before .before .before .before .before .before .before .before .before .search .ensures .0) _ _ (c .before .before .before .before .before .before .before .before .position .given .1) _ (c .before .before .before .before .before .leave-out .kept .0) (c .before .before .before .before .before .leave-out .ensures) .whole, labelled, labelled)
 
 enum-told-2 : tie.Need-enum-told-2
 enum-told-2 c = search needs
@@ -86,18 +97,18 @@ same-length-2 c = search needs
 
 returns-2 : tie.Need-returns-2
 returns-2 c =
-    let a = accepting _ _ _ (c .before .before .before .before .before .before .before .before .before .before .before .before .before .before .before .before .before .before .before .before .judge .ensures) (c .before .before .before .before .before .before .before .before .before .before .before .before .before .before .before .before .before .count .given .1) (λ i h. omega (arith, c .before .before .before .before .before .before .before .before .before .before .before .before .before .before .before .before .before .before .before .before .before .before .before .before .shared-slice-known .given i)) (c .before .before .before .before .before .before .before .before .before .before .before .before .before .before .before .before .before .before .before .before .judge .kept .1 .0) in
+    let a = accepting _ _ _ _ (c .before .before .before .before .before .before .before .before .before .before .before .before .before .before .before .before .before .before .before .before .before .before .before .judge .ensures) (c .before .before .before .before .before .before .before .before .before .before .before .before .before .before .before .before .before .before .before .count .given .1) (λ i h. omega (arith, c .before .before .before .before .before .before .before .before .before .before .before .before .before .before .before .before .before .before .before .before .before .before .before .before .before .before .before .before .shared-slice-known .given i)) (c .before .before .before .before .before .before .before .before .before .before .before .before .before .before .before .before .before .before .before .before .before .before .before .judge .kept .1 .0) in
     let r = c .before .before .write-table in
-    let row = left-row a _ _ (c .before .before .before .before .before .before .before .before .before .before .before .search .ensures .0) _ _ (c .before .before .before .before .before .before .before .before .before .position .given .1) _ (c .before .before .before .before .before .before .leave-out .kept .0) (c .before .before .before .before .before .before .leave-out .ensures) in
+    let row = left-row a _ _ (c .before .before .before .before .before .before .before .before .before .before .before .before .before .search .ensures .0) _ _ (c .before .before .before .before .before .before .before .before .before .before .before .position .given .1) _ (c .before .before .before .before .before .before .before .before .leave-out .kept .0) (c .before .before .before .before .before .before .before .before .leave-out .ensures) in
     let says = row-written row _ _ _ (r .ensures .0) (r .ensures .1) in
-    says-same _ _ _ (remove-done a _ _ (c .before .before .before .before .before .before .before .before .before .before .before .search .ensures .0) _ _ (c .before .before .before .before .before .before .before .before .before .position .given .1) _ (c .before .before .before .before .before .before .leave-out .kept .0) (c .before .before .before .before .before .before .leave-out .ensures) _ (slash-done _ _ (sym (c .before .before .before .before .before .before .before .before .before .before .before .before .before .before .before .slash .ensures) ∙ c .before .before .before .before .before .before .before .before .before .before .before .before .before .enum-told .given .1))) (says .0) (says .1)
+    says-same _ _ _ (remove-done a _ _ (c .before .before .before .before .before .before .before .before .before .before .before .before .before .search .ensures .0) _ _ (c .before .before .before .before .before .before .before .before .before .before .before .position .given .1) _ (c .before .before .before .before .before .before .before .before .leave-out .kept .0) (c .before .before .before .before .before .before .before .before .leave-out .ensures) _ (slash-done _ _ (sym (c .before .before .before .before .before .before .before .before .before .before .before .before .before .before .before .before .before .slash .ensures) ∙ c .before .before .before .before .before .before .before .before .before .before .before .before .before .before .before .enum-told .given .1))) (says .0) (says .1)
 
 same-length-3 : tie.Need-same-length-3
 same-length-3 c = search needs
 
 returns-3 : tie.Need-returns-3
 returns-3 c =
-    let a = accepting _ _ _ (c .before .before .before .before .before .before .before .before .before .before .before .before .before .before .before .judge .ensures) (c .before .before .before .before .before .before .before .before .before .before .before .before .count .given .1) (λ i h. omega (arith, c .before .before .before .before .before .before .before .before .before .before .before .before .before .before .before .before .before .before .before .shared-slice-known .given i)) (c .before .before .before .before .before .before .before .before .before .before .before .before .before .before .before .judge .kept .1 .0) in
+    let a = accepting _ _ _ _ (c .before .before .before .before .before .before .before .before .before .before .before .before .before .before .before .before .judge .ensures) (c .before .before .before .before .before .before .before .before .before .before .before .before .count .given .1) (λ i h. omega (arith, c .before .before .before .before .before .before .before .before .before .before .before .before .before .before .before .before .before .before .before .before .before .shared-slice-known .given i)) (c .before .before .before .before .before .before .before .before .before .before .before .before .before .before .before .before .judge .kept .1 .0) in
     refuses _ _ _ (absent-done a _ _ (c .before .before .before .before .before .before .search .ensures .0) _ (slash-done _ _ (sym (c .before .before .before .before .before .before .before .before .before .before .slash .ensures) ∙ c .before .before .before .before .before .before .before .before .enum-told .given .1)) _ (c .before .before .before .before .enum-told2 .given .1)) (c .before .before .refuse2 .ensures .0) (c .before .before .refuse2 .ensures .1)
 
 same-length-4 : tie.Need-same-length-4
@@ -105,13 +116,14 @@ same-length-4 c = search needs
 
 returns-4 : tie.Need-returns-4
 returns-4 c =
-    refuses _ _ _ (remove-refused _ _ _ _ (judged-refused _ _ _ (c .before .before .before .before .before .before .before .before .judge .ensures) (c .before .before .before .before .before .refusal2 .given .1))) (c .before .before .refuse3 .ensures .0) (c .before .before .refuse3 .ensures .1)
+    refuses _ _ _ (remove-refused _ _ _ _ (judged-refused _ _ _ _ (c .before .before .before .before .before .before .before .before .before .judge .ensures) (c .before .before .before .before .before .refusal2 .given .1))) (c .before .before .refuse3 .ensures .0) (c .before .before .refuse3 .ensures .1)
 
 pub remove-spec : {M : Type 1} → statement M
 remove-spec =
     tie.close
     (tie.spec
     slice-aggregate-judge
+    slice-aggregate-judge-2
     judge-requires
     enum-known-count
     slash-requires
@@ -126,6 +138,8 @@ remove-spec =
     slice-aggregate-leave-out
     leave-out-requires
     slice-aggregate-write-table
+    slice-aggregate-write-table-2
+    slice-aggregate-write-table-3
     sub-write-table
     write-table-requires
     enum-told-2

@@ -19,15 +19,15 @@ use Rattle.writer.proofs.used.Reads as used-reads
 
 into : (c : lts.After-write-page (top-layer-reads.Asked, top-layer-reads.Learnt, used-reads.Asked, used-reads.Learnt, write-page-reads.Asked, write-page-reads.Learnt, clear-reads.Asked, clear-reads.Learnt) reads.Pre reads.Post)
     → let after-used = c .before .before .before .before in
-    let start = after-used .before .before .before .before .before .before in
+    let start = after-used .before .before .before .before .before .before .before .before in
     let a = start .args in
-    WrittenInto (treeOfSet (recordsOf (a .s .now) (a .u .now) (a .row .now) (a .n))) (a .out .now) (after-used .used .result) (c .write-page .last .1 .1 .1 .1 .1 .1 .1 .1 .0) (c .write-page .result)
+    WrittenInto (treeOfSet (recordsOf (a .s .now) (a .u .now) (a .row .now) (a .n))) (a .out .now) (after-used .used .result) (c .write-page .last .1 .1 .1 .1 .1 .1 .1 .1 .1 .1 .1 .1 .0) (c .write-page .result)
 into c =
     let after-used = c .before .before .before .before in
     let after-top-layer = after-used .before in
-    let start = after-top-layer .before .before .before .before .before in
+    let start = after-top-layer .before .before .before .before .before .before .before in
     let a = start .args in
-    record { used = after-used .used .ensures; written = rw (← row-tree (start .pre) (after-top-layer .top-layer .result) (after-top-layer .top-layer .ensures (a .s .now) (a .u .now))) (c .write-page .ensures .0) }
+    record { used = after-used .used .ensures; written = rw (← row-tree (start .pre .0) (after-top-layer .top-layer .result) (after-top-layer .top-layer .ensures (a .s .now) (a .u .now))) (c .write-page .ensures .0) }
 
 top-layer-requires : tie.Need-top-layer-requires
 top-layer-requires c κs = search needs
@@ -47,14 +47,14 @@ slice-relend-prefix-write-page c = search needs
 slice-aggregate-write-page-3 : tie.Need-slice-aggregate-write-page-3
 slice-aggregate-write-page-3 c =
     let after-used = c .before .before .before in
-    let start = after-used .before .before .before .before .before .before in
+    let start = after-used .before .before .before .before .before .before .before .before in
     let h : after-used .used .result ≤ length (start .args .out .now) = omega (arith, after-used .used .ensures) in
     sym (length-take-le (after-used .used .result) (start .args .out .now) h)
 
 write-page-requires : tie.Need-write-page-requires
 write-page-requires c κs =
-    let start = c .before .before .before .before .before .before .before .before .before in
-    row-ready (start .pre)
+    let start = c .before .before .before .before .before .before .before .before .before .before .before in
+    (row-ready (start .pre .0), start .pre .1, start .pre .2)
 
 sub-clear : tie.Need-sub-clear
 sub-clear c =
@@ -72,8 +72,8 @@ part-clear-end c = search needs
 clear-requires : tie.Need-clear-requires
 clear-requires c κs = search needs
 
-cast-t26 : tie.Need-cast-t26
-cast-t26 c =
+cast-t30 : tie.Need-cast-t30
+cast-t30 c =
     let after-if1 = c .before .before .before .before in
     let after-write-page = after-if1 .before .before .before .before .before in
     omega (arith, len-small (into (after-write-page)) (after-if1 .if1 .taken))
@@ -103,9 +103,9 @@ returns-2 c =
     let after-if1 = after-clear2 .before .before in
     let after-write-page = after-if1 .before .before .before .before .before in
     let after-used = after-write-page .before .before .before .before in
-    let start = after-used .before .before .before .before .before .before in
+    let start = after-used .before .before .before .before .before .before .before .before in
     let w = into after-write-page in
-    (answer-refused w (after-if1 .if1 .left), output-refused w (after-if1 .if1 .left) (after-write-page .write-page .last .1 .1 .1 .1 .1 .1 .1 .1 .0 ++ drop (after-used .used .result) (start .args .out .now)) (after-clear2 .clear2 .last .0) (search needs) (after-clear2 .clear2 .ensures))
+    (answer-refused w (after-if1 .if1 .left), output-refused w (after-if1 .if1 .left) (after-write-page .write-page .last .1 .1 .1 .1 .1 .1 .1 .1 .1 .1 .1 .1 .0 ++ drop (after-used .used .result) (start .args .out .now)) (after-clear2 .clear2 .last .0) (search needs) (after-clear2 .clear2 .ensures))
 
 pub write-table-spec : {M : Type 1} → statement M
 write-table-spec =
@@ -122,7 +122,7 @@ write-table-spec =
     part-clear-start
     part-clear-end
     clear-requires
-    cast-t26
+    cast-t30
     same-length
     returns
     clear-requires-2

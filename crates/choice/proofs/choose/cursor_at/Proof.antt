@@ -16,7 +16,9 @@ shared-slice-read-recall c = search needs
 
 recall-requires : tie.Need-recall-requires
 recall-requires c κs =
-    let p = c .before .before .before .before .before .before .before .before .before .pre in (p .0 .first, p .0 .second, p .0 .stands _ (omega arith), p .1, omega arith, omega arith)
+    let start = c .before .before .before .before .before .before .before .before .before in
+    let p = start .pre in
+    (p .0 .first, p .0 .second, p .0 .stands (start .args .at) (omega arith) .held, p .1, omega arith, omega arith)
 
 same-length : tie.Need-same-length
 same-length c = search needs

@@ -1,6 +1,5 @@
-use borrow.Author.Needs.{needs}
-use Rattle.index.specs.Walk.{LayerIs}
 use Rattle.index.proofs.Records.{record-taken}
+use borrow.Author.Needs.{needs}
 use Rattle.index.proofs.walk.take_record.Statement.{statement}
 use Rattle.index.proofs.walk.take_record.Tie as tie
 
@@ -10,27 +9,20 @@ key-is-lawful-requires c κs = search needs
 key-rises-requires : tie.Need-key-rises-requires
 key-rises-requires c κs = search needs
 
-key-layer-requires : tie.Need-key-layer-requires
-key-layer-requires c κs = search needs
-
 note-requires : tie.Need-note-requires
-unfolding LayerIs
 note-requires c κs = search needs
 
 remember-requires : tie.Need-remember-requires
 remember-requires c κs = search needs
 
-add-t21 : tie.Need-add-t21
-add-t21 c = search needs
+add-t20 : tie.Need-add-t20
+add-t20 c = search needs
 
 both-requires : tie.Need-both-requires
 both-requires c κs = search needs
 
 both-requires-2 : tie.Need-both-requires-2
 both-requires-2 c κs = search needs
-
-is-level-requires : tie.Need-is-level-requires
-is-level-requires c κs = search needs
 
 both-requires-3 : tie.Need-both-requires-3
 both-requires-3 c κs = search needs
@@ -50,13 +42,11 @@ take-record-spec =
     (tie.spec
     key-is-lawful-requires
     key-rises-requires
-    key-layer-requires
     note-requires
     remember-requires
-    add-t21
+    add-t20
     both-requires
     both-requires-2
-    is-level-requires
     both-requires-3
     same-length
     same-length-2

@@ -23,6 +23,9 @@ returns c =
 slice-aggregate-judge : tie.Need-slice-aggregate-judge
 slice-aggregate-judge c = search needs
 
+slice-aggregate-judge-2 : tie.Need-slice-aggregate-judge-2
+slice-aggregate-judge-2 c = search needs
+
 judge-requires : tie.Need-judge-requires
 judge-requires c κs = search needs
 
@@ -43,10 +46,10 @@ slice-aggregate-add-lines c = search needs
 
 add-lines-requires : tie.Need-add-lines-requires
 add-lines-requires c κs =
-    let a = c .before .before .before .before .before .before .before .before .before .before .before .before .before .before .before .before .before .before .before .args in
-    let j = c .before .before .before .before .before .before .before .before .before .before .before .before .before .before .judge in
-    let index = accepted-index (a .s .now) _ (j .result) (j .ensures) (c .before .before .before .before .before .before .before .before .before .before .before .count .given .1) in
-    let bytes = bytes-of (a .s .now) (λ i h. omega (arith, c .before .before .before .before .before .before .before .before .before .before .before .before .before .before .before .before .before .before .shared-slice-known .given i)) in
+    let a = c .before .before .before .before .before .before .before .before .before .before .before .before .before .before .before .before .before .before .before .before .before .args in
+    let j = c .before .before .before .before .before .before .before .before .before .before .before .before .before .before .before .judge in
+    let index = accepted-index (a .s .now) _ _ (j .result) (j .ensures) (c .before .before .before .before .before .before .before .before .before .before .before .count .given .1) in
+    let bytes = bytes-of (a .s .now) (λ i h. omega (arith, c .before .before .before .before .before .before .before .before .before .before .before .before .before .before .before .before .before .before .before .before .shared-slice-known .given i)) in
     let few = accepted-few bytes index in
     index-row bytes index (omega arith)
 
@@ -70,10 +73,10 @@ same-length-2 c = search needs
 
 returns-2 : tie.Need-returns-2
 returns-2 c =
-    let a = c .before .before .before .before .before .before .before .before .before .before .before .before .before .before .before .before .before .before .before .before .before .before .args in
-    let j = c .before .before .before .before .before .before .before .before .before .before .before .before .before .before .before .before .before .judge in
-    let index = accepted-index (a .s .now) _ (j .result) (j .ensures) (c .before .before .before .before .before .before .before .before .before .before .before .before .before .before .count .given .1) in
-    let bytes = bytes-of (a .s .now) (λ i h. omega (arith, c .before .before .before .before .before .before .before .before .before .before .before .before .before .before .before .before .before .before .before .before .before .shared-slice-known .given i)) in
+    let a = c .before .before .before .before .before .before .before .before .before .before .before .before .before .before .before .before .before .before .before .before .before .before .before .before .args in
+    let j = c .before .before .before .before .before .before .before .before .before .before .before .before .before .before .before .before .before .before .judge in
+    let index = accepted-index (a .s .now) _ _ (j .result) (j .ensures) (c .before .before .before .before .before .before .before .before .before .before .before .before .before .before .count .given .1) in
+    let bytes = bytes-of (a .s .now) (λ i h. omega (arith, c .before .before .before .before .before .before .before .before .before .before .before .before .before .before .before .before .before .before .before .before .before .before .before .shared-slice-known .given i)) in
     let few = accepted-few bytes index in
     wrote-records (omega arith) index (c .before .before .before .before .before .before .before .before .before .before .add-first-line2 .ensures) bytes (omega arith) (c .before .before .before .before .before .before .at .given .1) (c .before .before .add-lines .ensures)
 
@@ -82,9 +85,9 @@ same-length-3 c = search needs
 
 returns-3 : tie.Need-returns-3
 returns-3 c =
-    let a = c .before .before .before .before .before .before .before .before .before .before .before .before .before .before .before .before .args in
-    let j = c .before .before .before .before .before .before .before .before .before .before .before .judge in
-    let index = accepted-index (a .s .now) _ (j .result) (j .ensures) (c .before .before .before .before .before .before .before .before .count .given .1) in
+    let a = c .before .before .before .before .before .before .before .before .before .before .before .before .before .before .before .before .before .before .args in
+    let j = c .before .before .before .before .before .before .before .before .before .before .before .before .judge in
+    let index = accepted-index (a .s .now) _ _ (j .result) (j .ensures) (c .before .before .before .before .before .before .before .before .count .given .1) in
     wrote-short (omega arith) index (c .before .before .before .before .add-first-line2 .ensures) (c .enum-told .given .1)
 
 same-length-4 : tie.Need-same-length-4
@@ -92,9 +95,9 @@ same-length-4 c = search needs
 
 returns-4 : tie.Need-returns-4
 returns-4 c =
-    let a = c .before .before .before .before .before .before .before .before .before .before .before .before .before .before .before .args in
-    let j = c .before .before .before .before .before .before .before .before .before .before .judge in
-    wrote-refused (a .s .now) (omega arith) (judged-refused (a .s .now) _ (j .result) (j .ensures) (c .before .before .before .before .before .before .before .refusal .given .1)) _ (c .before .before .before .number .ensures)
+    let a = c .before .before .before .before .before .before .before .before .before .before .before .before .before .before .before .before .before .args in
+    let j = c .before .before .before .before .before .before .before .before .before .before .before .judge in
+    wrote-refused (a .s .now) (omega arith) (judged-refused (a .s .now) _ _ (j .result) (j .ensures) (c .before .before .before .before .before .before .before .refusal .given .1)) _ (c .before .before .before .number .ensures)
     (c .before .before .add-first-line3 .ensures)
 
 pub write-listing-spec : {M : Type 1} → statement M
@@ -106,6 +109,7 @@ write-listing-spec =
     same-length
     returns
     slice-aggregate-judge
+    slice-aggregate-judge-2
     judge-requires
     enum-known-count
     slice-aggregate-add-first-line-2

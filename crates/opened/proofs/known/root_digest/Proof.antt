@@ -1,7 +1,7 @@
 use borrow.Author.Needs.{needs}
 use native.Mathlib.Omega.{arith}
 use Rattle.page.proofs.Tools.{bytes-of}
-use Rattle.opened.proofs.LinkTests.{page-end-within, root-there, root-hashed}
+use Rattle.opened.proofs.Roots.{page-end-within, root-there, root-hashed}
 use Rattle.opened.proofs.known.root_digest.Statement.{statement}
 use Rattle.opened.proofs.known.root_digest.Tie as tie
 

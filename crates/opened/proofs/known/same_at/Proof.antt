@@ -2,7 +2,7 @@ use borrow.Author.Needs.{needs}
 use Prim.Native.Nat.{_+_, _-_, _≤_}
 use mathlib.Core.Path.{_≡_, refl}
 use lib.ListN.{length}
-use Rattle.index.proofs.Pages.{SameSoFar, all-same, one-differs, one-more-same}
+use Rattle.judge.proofs.Comparing.{SameSoFar, all-same, one-differs, one-more-same}
 use Rattle.opened.proofs.known.same_at.Statement.{statement}
 use Rattle.opened.proofs.known.same_at.Tie as tie
 

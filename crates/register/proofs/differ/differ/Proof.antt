@@ -2,6 +2,7 @@ use native.Mathlib.Omega.{arith}
 use lib.ListN.{length}
 use Rattle.page.proofs.Tools.{bytes-of}
 use Rattle.register.proofs.Differing.{Both, may-open, may-leave, small-counts, difference-found, difference-refused}
+use Rattle.judge.proofs.Labels.{row-labelled}
 use borrow.Author.Needs.{needs}
 use Rattle.register.proofs.differ.differ.Statement.{statement}
 use Rattle.register.proofs.differ.differ.Tie as tie
@@ -19,8 +20,8 @@ both c = record {
   others = bytes-of (c .before .before .args .second .now) (λ i h. omega (arith, c .shared-slice-known2 .given i));
   first = c .before .before .pre .0;
   second = c .before .before .pre .1;
-  fits = c .before .before .pre .2;
-  others-fit = c .before .before .pre .3;
+  fits = c .before .before .pre .4;
+  others-fit = c .before .before .pre .5;
 }
 
 slice-aggregate-open-pages : tie.Need-slice-aggregate-open-pages
@@ -28,28 +29,24 @@ slice-aggregate-open-pages c = search needs
 
 open-pages-requires : tie.Need-open-pages-requires
 open-pages-requires c κs =
-    may-open (both (c .before .before .before .before))
+    let pre = c .before .before .before .before .before .before .before .before .before .pre in
+    may-open (both (c .before .before .before .before .before .before .before)) (pre .2) (pre .3)
 
 cast-opened : tie.Need-cast-opened
 cast-opened c =
-    omega (arith, small-counts (both (c .before .before .before .before .before .before .before)) (c .before .before .open-pages .result) _ (c .before .before .open-pages .ensures) (c .before .before .open-pages .kept .1 .1 .1 .1 .0))
+    omega (arith, small-counts (both (c .before .before .before .before .before .before .before .before .before .before)) (c .before .before .open-pages .result) _ (c .before .before .open-pages .ensures) (c .before .before .open-pages .kept .1 .1 .1 .1 .1 .1 .1 .1 .0))
 
 slice-aggregate-leave-held : tie.Need-slice-aggregate-leave-held
 slice-aggregate-leave-held c = search needs
 
-slice-aggregate-leave-held-2 : tie.Need-slice-aggregate-leave-held-2
-slice-aggregate-leave-held-2 c = search needs
-
 leave-held-requires : tie.Need-leave-held-requires
 leave-held-requires c κs =
-    may-leave (both (c .before .before .before .before .before .before .before .before .before)) (c .before .before .before .before .open-pages .result) _ (c .before .before .before .before .open-pages .ensures) (c .before .before .before .before .open-pages .kept .1 .1 .1 .1 .0)
-
-slice-aggregate-write-table : tie.Need-slice-aggregate-write-table
-slice-aggregate-write-table c = search needs
+    may-leave (both (c .before .before .before .before .before .before .before .before .before .before .before .before)) (c .before .before .before .before .open-pages .result) _ (c .before .before .before .before .open-pages .ensures) (c .before .before .before .before .open-pages .kept .1 .1 .1 .1 .1 .1 .1 .1 .0) (c .before .before .before .before .before .before .before .before .before .before .before .before .before .before .pre .6)
 
 write-table-requires : tie.Need-write-table-requires
 write-table-requires c κs =
-    c .before .before .before .leave-held .ensures .whole
+    let pre = c .before .before .before .before .before .before .before .before .before .before .before .before .before .before .before .before .before .before .before .pre in
+    (c .before .before .before .before .leave-held .ensures .whole, row-labelled (pre .2), row-labelled (pre .3))
 
 enum-known-length : tie.Need-enum-known-length
 enum-known-length c = search needs
@@ -60,16 +57,22 @@ enum-known-refusal c = search needs
 same-length : tie.Need-same-length
 same-length c = search needs
 
-returns : tie.Need-returns
-returns c =
-    difference-found (both (c .before .before .before .before .before .before .before .before .before .before .before .before .before .before .before .before .before .before .before)) (c .before .before .before .before .before .before .before .before .before .before .before .before .before .before .open-pages .result) _ (c .before .before .before .before .before .before .before .before .before .before .before .before .before .before .open-pages .ensures) (c .before .before .before .before .before .before .before .before .before .before .before .before .before .before .open-pages .kept .1 .1 .1 .1 .0) _ _ (c .before .before .before .before .before .before .before .before .before .leave-held .ensures) (length (c .before .before .before .before .before .before .before .before .before .before .before .before .before .before .before .before .before .before .before .before .before .args .out .now)) (c .before .before .before .before .before .write-table .result) _ (c .before .before .before .before .before .write-table .ensures) _ (c .before .length .given .1)
-
 same-length-2 : tie.Need-same-length-2
 same-length-2 c = search needs
 
+returns : tie.Need-returns
+returns c =
+    difference-found (both (c .before .before .before .before .before .before .before .before .before .before .before .before .before .before .before .before .before .before .before .before .before .before .before)) (c .before .before .before .before .before .before .before .before .before .before .before .before .before .before .before .open-pages .result) _ (c .before .before .before .before .before .before .before .before .before .before .before .before .before .before .before .open-pages .ensures) (c .before .before .before .before .before .before .before .before .before .before .before .before .before .before .before .open-pages .kept .1 .1 .1 .1 .1 .1 .1 .1 .0) _ _ (c .before .before .before .before .before .before .before .before .before .before .leave-held .ensures) (length (c .before .before .before .before .before .before .before .before .before .before .before .before .before .before .before .before .before .before .before .before .before .before .before .before .before .args .out .now)) (c .before .before .before .before .before .write-table .result) _ (c .before .before .before .before .before .write-table .ensures) _ (c .before .length .given .1)
+
+same-length-3 : tie.Need-same-length-3
+same-length-3 c = search needs
+
+same-length-4 : tie.Need-same-length-4
+same-length-4 c = search needs
+
 returns-2 : tie.Need-returns-2
 returns-2 c =
-    difference-refused (both (c .before .before .before .before .before .before .before .before .before .before .before .before .before .before .before .before .before .before .before)) (c .before .before .before .before .before .before .before .before .before .before .before .before .before .before .open-pages .result) _ (c .before .before .before .before .before .before .before .before .before .before .before .before .before .before .open-pages .ensures) (c .before .before .before .before .before .before .before .before .before .before .before .before .before .before .open-pages .kept .1 .1 .1 .1 .0) _ _ (c .before .before .before .before .before .before .before .before .before .leave-held .ensures) (length (c .before .before .before .before .before .before .before .before .before .before .before .before .before .before .before .before .before .before .before .before .before .args .out .now)) (c .before .before .before .before .before .write-table .result) _ (c .before .before .before .before .before .write-table .ensures) _ (c .before .refusal .given .1)
+    difference-refused (both (c .before .before .before .before .before .before .before .before .before .before .before .before .before .before .before .before .before .before .before .before .before .before .before)) (c .before .before .before .before .before .before .before .before .before .before .before .before .before .before .before .open-pages .result) _ (c .before .before .before .before .before .before .before .before .before .before .before .before .before .before .before .open-pages .ensures) (c .before .before .before .before .before .before .before .before .before .before .before .before .before .before .before .open-pages .kept .1 .1 .1 .1 .1 .1 .1 .1 .0) _ _ (c .before .before .before .before .before .before .before .before .before .before .leave-held .ensures) (length (c .before .before .before .before .before .before .before .before .before .before .before .before .before .before .before .before .before .before .before .before .before .before .before .before .before .args .out .now)) (c .before .before .before .before .before .write-table .result) _ (c .before .before .before .before .before .write-table .ensures) _ (c .before .refusal .given .1)
 
 pub differ-spec : {M : Type 1} → statement M
 differ-spec =
@@ -79,13 +82,13 @@ differ-spec =
     open-pages-requires
     cast-opened
     slice-aggregate-leave-held
-    slice-aggregate-leave-held-2
     leave-held-requires
-    slice-aggregate-write-table
     write-table-requires
     enum-known-length
     enum-known-refusal
     same-length
-    returns
     same-length-2
+    returns
+    same-length-3
+    same-length-4
     returns-2)

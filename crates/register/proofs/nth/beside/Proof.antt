@@ -12,6 +12,9 @@ use Rattle.register.proofs.nth.beside.Tie as tie
 slice-aggregate-judge : tie.Need-slice-aggregate-judge
 slice-aggregate-judge c = search needs
 
+slice-aggregate-judge-2 : tie.Need-slice-aggregate-judge-2
+slice-aggregate-judge-2 c = search needs
+
 judge-requires : tie.Need-judge-requires
 judge-requires c κs = search needs
 
@@ -32,7 +35,7 @@ same-length c = search needs
 
 returns : tie.Need-returns
 returns c =
-    let a = accepting _ _ _ (c .before .before .before .before .before .before .before .before .before .before .before .before .before .judge .ensures) (c .before .before .before .before .before .before .before .before .before .before .count .given .1) (λ i h. omega (arith, c .before .before .before .before .before .before .before .before .before .before .before .before .before .before .before .before .before .shared-slice-known .given i)) (c .before .before .before .before .before .before .before .before .before .before .before .before .before .judge .kept .1 .0) in
+    let a = accepting _ _ _ _ (c .before .before .before .before .before .before .before .before .before .before .before .before .before .before .judge .ensures) (c .before .before .before .before .before .before .before .before .before .before .count .given .1) (λ i h. omega (arith, c .before .before .before .before .before .before .before .before .before .before .before .before .before .before .before .before .before .before .before .shared-slice-known .given i)) (c .before .before .before .before .before .before .before .before .before .before .before .before .before .before .judge .kept .1 .0) in
     let r = c .before .before .refuse-record in
     record-refused _ _ _ _ (beside-unlawful _ _ _ _ (a .given .tree) (a .given .judged) (sym (c .before .before .before .before .before .before .before .before .slash .ensures) ∙ c .before .before .before .before .before .before .refusal .given .1)) (r .ensures .0) (r .ensures .1 .0) (r .ensures .1 .1)
 
@@ -44,7 +47,7 @@ slice-aggregate-count-below c = search needs
 
 count-below-requires : tie.Need-count-below-requires
 count-below-requires c κs =
-    let a = accepting _ _ _ (c .before .before .before .before .before .before .before .before .judge .ensures) (c .before .before .before .before .before .count .given .1) (λ i h. omega (arith, c .before .before .before .before .before .before .before .before .before .before .before .before .shared-slice-known .given i)) (c .before .before .before .before .before .before .before .before .judge .kept .1 .0) in
+    let a = accepting _ _ _ _ (c .before .before .before .before .before .before .before .before .before .judge .ensures) (c .before .before .before .before .before .count .given .1) (λ i h. omega (arith, c .before .before .before .before .before .before .before .before .before .before .before .before .before .before .shared-slice-known .given i)) (c .before .before .before .before .before .before .before .before .before .judge .kept .1 .0) in
     a .fits
 
 refuse-record-requires-2 : tie.Need-refuse-record-requires-2
@@ -55,7 +58,7 @@ same-length-2 c = search needs
 
 returns-2 : tie.Need-returns-2
 returns-2 c =
-    let a = accepting _ _ _ (c .before .before .before .before .before .before .before .before .before .before .before .before .before .before .before .before .judge .ensures) (c .before .before .before .before .before .before .before .before .before .before .before .before .before .count .given .1) (λ i h. omega (arith, c .before .before .before .before .before .before .before .before .before .before .before .before .before .before .before .before .before .before .before .before .shared-slice-known .given i)) (c .before .before .before .before .before .before .before .before .before .before .before .before .before .before .before .before .judge .kept .1 .0) in
+    let a = accepting _ _ _ _ (c .before .before .before .before .before .before .before .before .before .before .before .before .before .before .before .before .before .judge .ensures) (c .before .before .before .before .before .before .before .before .before .before .before .before .before .count .given .1) (λ i h. omega (arith, c .before .before .before .before .before .before .before .before .before .before .before .before .before .before .before .before .before .before .before .before .before .before .shared-slice-known .given i)) (c .before .before .before .before .before .before .before .before .before .before .before .before .before .before .before .before .before .judge .kept .1 .0) in
     let r = c .before .before .refuse-record2 in
     record-refused _ _ _ _ (after-none (a .given) _ (slash-done _ _ (sym (c .before .before .before .before .before .before .before .before .before .before .before .slash .ensures) ∙ c .before .before .before .before .before .before .before .before .before .enum-told .given .1)) _ _ (c .before .before .before .before .before .before .before .count-below .ensures .0) _ (c .before .before .before .before .before .before .if1 .taken) (omega arith)) (r .ensures .0) (r .ensures .1 .0) (r .ensures .1 .1)
 
@@ -64,7 +67,7 @@ slice-aggregate-give-nth c = search needs
 
 give-nth-requires : tie.Need-give-nth-requires
 give-nth-requires c κs =
-    let a = accepting _ _ _ (c .before .before .before .before .before .before .before .before .before .before .before .before .before .before .judge .ensures) (c .before .before .before .before .before .before .before .before .before .before .before .count .given .1) (λ i h. omega (arith, c .before .before .before .before .before .before .before .before .before .before .before .before .before .before .before .before .before .before .shared-slice-known .given i)) (c .before .before .before .before .before .before .before .before .before .before .before .before .before .before .judge .kept .1 .0) in
+    let a = accepting _ _ _ _ (c .before .before .before .before .before .before .before .before .before .before .before .before .before .before .before .judge .ensures) (c .before .before .before .before .before .before .before .before .before .before .before .count .given .1) (λ i h. omega (arith, c .before .before .before .before .before .before .before .before .before .before .before .before .before .before .before .before .before .before .before .before .shared-slice-known .given i)) (c .before .before .before .before .before .before .before .before .before .before .before .before .before .before .before .judge .kept .1 .0) in
     (a .given, omega arith, a .fits)
 
 same-length-3 : tie.Need-same-length-3
@@ -72,7 +75,7 @@ same-length-3 c = search needs
 
 returns-3 : tie.Need-returns-3
 returns-3 c =
-    let a = accepting _ _ _ (c .before .before .before .before .before .before .before .before .before .before .before .before .before .before .before .before .before .judge .ensures) (c .before .before .before .before .before .before .before .before .before .before .before .before .before .before .count .given .1) (λ i h. omega (arith, c .before .before .before .before .before .before .before .before .before .before .before .before .before .before .before .before .before .before .before .before .before .shared-slice-known .given i)) (c .before .before .before .before .before .before .before .before .before .before .before .before .before .before .before .before .before .judge .kept .1 .0) in
+    let a = accepting _ _ _ _ (c .before .before .before .before .before .before .before .before .before .before .before .before .before .before .before .before .before .before .judge .ensures) (c .before .before .before .before .before .before .before .before .before .before .before .before .before .before .count .given .1) (λ i h. omega (arith, c .before .before .before .before .before .before .before .before .before .before .before .before .before .before .before .before .before .before .before .before .before .before .before .shared-slice-known .given i)) (c .before .before .before .before .before .before .before .before .before .before .before .before .before .before .before .before .before .before .judge .kept .1 .0) in
     let r = c .before .before .give-nth in
     record-same _ _ _ _ (after-given (a .given) _ (slash-done _ _ (sym (c .before .before .before .before .before .before .before .before .before .before .before .before .slash .ensures) ∙ c .before .before .before .before .before .before .before .before .before .before .enum-told .given .1)) _ _ (c .before .before .before .before .before .before .before .before .count-below .ensures .0) _ (c .before .before .before .before .before .before .before .if1 .taken) (omega arith)) (r .ensures)
 
@@ -84,7 +87,7 @@ same-length-4 c = search needs
 
 returns-4 : tie.Need-returns-4
 returns-4 c =
-    let a = accepting _ _ _ (c .before .before .before .before .before .before .before .before .before .before .before .before .before .before .before .before .judge .ensures) (c .before .before .before .before .before .before .before .before .before .before .before .before .before .count .given .1) (λ i h. omega (arith, c .before .before .before .before .before .before .before .before .before .before .before .before .before .before .before .before .before .before .before .before .shared-slice-known .given i)) (c .before .before .before .before .before .before .before .before .before .before .before .before .before .before .before .before .judge .kept .1 .0) in
+    let a = accepting _ _ _ _ (c .before .before .before .before .before .before .before .before .before .before .before .before .before .before .before .before .before .judge .ensures) (c .before .before .before .before .before .before .before .before .before .before .before .before .before .count .given .1) (λ i h. omega (arith, c .before .before .before .before .before .before .before .before .before .before .before .before .before .before .before .before .before .before .before .before .before .before .shared-slice-known .given i)) (c .before .before .before .before .before .before .before .before .before .before .before .before .before .before .before .before .before .judge .kept .1 .0) in
     let r = c .before .before .refuse-record3 in
     record-refused _ _ _ _ (before-none (a .given) _ (slash-done _ _ (sym (c .before .before .before .before .before .before .before .before .before .before .before .slash .ensures) ∙ c .before .before .before .before .before .before .before .before .before .enum-told .given .1)) _ _ (c .before .before .before .before .before .before .before .count-below .ensures .0) _ (c .before .before .before .before .before .before .if1 .left) (omega arith)) (r .ensures .0) (r .ensures .1 .0) (r .ensures .1 .1)
 
@@ -96,7 +99,7 @@ sub-give-nth c = search needs
 
 give-nth-requires-2 : tie.Need-give-nth-requires-2
 give-nth-requires-2 c κs =
-    let a = accepting _ _ _ (c .before .before .before .before .before .before .before .before .before .before .before .before .before .before .judge .ensures) (c .before .before .before .before .before .before .before .before .before .before .before .count .given .1) (λ i h. omega (arith, c .before .before .before .before .before .before .before .before .before .before .before .before .before .before .before .before .before .before .shared-slice-known .given i)) (c .before .before .before .before .before .before .before .before .before .before .before .before .before .before .judge .kept .1 .0) in
+    let a = accepting _ _ _ _ (c .before .before .before .before .before .before .before .before .before .before .before .before .before .before .before .judge .ensures) (c .before .before .before .before .before .before .before .before .before .before .before .count .given .1) (λ i h. omega (arith, c .before .before .before .before .before .before .before .before .before .before .before .before .before .before .before .before .before .before .before .before .shared-slice-known .given i)) (c .before .before .before .before .before .before .before .before .before .before .before .before .before .before .before .judge .kept .1 .0) in
     (a .given, omega (arith, c .before .before .before .before .before .count-below .ensures .1), a .fits)
 
 enum-known-refusal-2 : tie.Need-enum-known-refusal-2
@@ -110,7 +113,7 @@ same-length-5 c = search needs
 
 returns-5 : tie.Need-returns-5
 returns-5 c =
-    let a = accepting _ _ _ (c .before .before .before .before .before .before .before .before .before .before .before .before .before .before .before .before .before .judge .ensures) (c .before .before .before .before .before .before .before .before .before .before .before .before .before .before .count .given .1) (λ i h. omega (arith, c .before .before .before .before .before .before .before .before .before .before .before .before .before .before .before .before .before .before .before .before .before .shared-slice-known .given i)) (c .before .before .before .before .before .before .before .before .before .before .before .before .before .before .before .before .before .judge .kept .1 .0) in
+    let a = accepting _ _ _ _ (c .before .before .before .before .before .before .before .before .before .before .before .before .before .before .before .before .before .before .judge .ensures) (c .before .before .before .before .before .before .before .before .before .before .before .before .before .before .count .given .1) (λ i h. omega (arith, c .before .before .before .before .before .before .before .before .before .before .before .before .before .before .before .before .before .before .before .before .before .before .before .shared-slice-known .given i)) (c .before .before .before .before .before .before .before .before .before .before .before .before .before .before .before .before .before .before .judge .kept .1 .0) in
     let r = c .before .before .give-nth2 in
     record-same _ _ _ _ (before-given (a .given) _ (slash-done _ _ (sym (c .before .before .before .before .before .before .before .before .before .before .before .before .slash .ensures) ∙ c .before .before .before .before .before .before .before .before .before .before .enum-told .given .1)) _ _ (c .before .before .before .before .before .before .before .before .count-below .ensures .0) _ (c .before .before .before .before .before .before .before .if1 .left) (omega arith) (c .before .before .before .before .before .before .before .before .count-below .ensures .1)) (r .ensures)
 
@@ -120,13 +123,14 @@ same-length-6 c = search needs
 returns-6 : tie.Need-returns-6
 returns-6 c =
     let r = c .before .before .refuse-record4 in
-    record-refused _ _ _ _ (beside-refused _ _ _ _ (judged-refused _ _ _ (c .before .before .before .before .before .before .before .before .before .judge .ensures) (c .before .before .before .before .before .before .refusal2 .given .1))) (r .ensures .0) (r .ensures .1 .0) (r .ensures .1 .1)
+    record-refused _ _ _ _ (beside-refused _ _ _ _ (judged-refused _ _ _ _ (c .before .before .before .before .before .before .before .before .before .before .judge .ensures) (c .before .before .before .before .before .before .refusal2 .given .1))) (r .ensures .0) (r .ensures .1 .0) (r .ensures .1 .1)
 
 pub beside-spec : {M : Type 1} → statement M
 beside-spec =
     tie.close
     (tie.spec
     slice-aggregate-judge
+    slice-aggregate-judge-2
     judge-requires
     enum-known-count
     slash-requires

@@ -17,7 +17,8 @@ slice-aggregate-write-table c = search needs
 
 write-table-requires : tie.Need-write-table-requires
 write-table-requires c κs =
-    chosen-row _ _ _ _ _ (c .before .before .before .before .before .before .choose .ensures) (c .before .before .before .count .given .1) .whole
+    let pre = c .before .before .before .before .before .before .before .before .before .before .before .before .before .before .before .pre in
+    (chosen-row _ _ _ _ _ (c .before .before .before .before .before .before .choose .ensures) (c .before .before .before .count .given .1) .whole, pre .2, pre .3)
 
 enum-told : tie.Need-enum-told
 enum-told c = search needs

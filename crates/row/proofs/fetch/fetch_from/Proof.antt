@@ -5,7 +5,7 @@ use native.Mathlib.Omega.{arith}
 use lib.ListN.{length}
 use Rattle.fips180.specs.Bytes.{Bytes}
 use Rattle.page.proofs.Tools.{bytes-of}
-use Rattle.index.specs.Walk.{pageIn, entryIn}
+use Rattle.index.specs.Word.{pageIn, entryIn}
 use Rattle.index.proofs.Entries.{entry-inside, shares-small, size-small}
 use Rattle.row.specs.Fetch.{OnTheWay}
 use Rattle.row.proofs.Ways.{nearer, way-begins, no-way, way-on, way-stops, way-ends, way-breaks}

@@ -21,7 +21,7 @@ use Rattle.writer.proofs.pages.write_page.Kinds as write-page-kinds
 use Rattle.writer.proofs.pages.+write_gap+write_page.Lts-write_page as write-page-lts
 use Rattle.page.proofs.writing.write_page_end.Reads as write-page-end-reads
 use Rattle.page.proofs.writing.write_page_start.Reads as write-page-start-reads
-use Rattle.sha256.proofs.digest_of.Reads as digest-of-reads
+use Rattle.writer.proofs.digests.page_digest.Reads as page-digest-reads
 use Rattle.writer.proofs.pages.has_page.Reads as has-page-reads
 use Rattle.writer.proofs.pages.measure.Reads as measure-reads
 use Rattle.writer.proofs.pages.no_room.Reads as no-room-reads
@@ -29,26 +29,26 @@ use Rattle.writer.proofs.pages.nothing_below.Reads as nothing-below-rea
 use Rattle.writer.proofs.pages.run_end.Reads as run-end-reads
 use Rattle.writer.proofs.pages.write_record.Reads as write-record-reads
 
-abbrev μ-write-gap : Measures 6 write-gap-kinds.ps ℕ
-μ-write-gap κs a = 2 * a .1 .1 .1 .1 .1 .0
+abbrev μ-write-gap : Measures 8 write-gap-kinds.ps ℕ
+μ-write-gap κs a = 2 * a .1 .1 .1 .1 .1 .1 .1 .1 .1 .0
 
-abbrev μ-write-page : Measures 6 write-page-kinds.ps ℕ
-μ-write-page κs a = 2 * a .1 .1 .1 .1 .1 .0 + 1
+abbrev μ-write-page : Measures 8 write-page-kinds.ps ℕ
+μ-write-page κs a = 2 * a .1 .1 .1 .1 .1 .1 .1 .1 .1 .0 + 1
 
-abbrev write-gap-at : ℕ → In 6 write-gap-kinds.ps
-write-gap-at t = and 6 write-gap-kinds.ps (is 6 write-gap-kinds.ps μ-write-gap t) write-gap.Pre
+abbrev write-gap-at : ℕ → In 8 write-gap-kinds.ps
+write-gap-at t = and 8 write-gap-kinds.ps (is 8 write-gap-kinds.ps μ-write-gap t) write-gap.Pre
 
-abbrev write-gap-below : ℕ → In 6 write-gap-kinds.ps
+abbrev write-gap-below : ℕ → In 8 write-gap-kinds.ps
 write-gap-below t =
-    and 6 write-gap-kinds.ps (falls 6 write-gap-kinds.ps _<_ μ-write-gap t) write-gap.Pre
+    and 8 write-gap-kinds.ps (falls 8 write-gap-kinds.ps _<_ μ-write-gap t) write-gap.Pre
 
-abbrev write-page-at : ℕ → In 6 write-page-kinds.ps
+abbrev write-page-at : ℕ → In 8 write-page-kinds.ps
 write-page-at t =
-    and 6 write-page-kinds.ps (is 6 write-page-kinds.ps μ-write-page t) write-page.Pre
+    and 8 write-page-kinds.ps (is 8 write-page-kinds.ps μ-write-page t) write-page.Pre
 
-abbrev write-page-below : ℕ → In 6 write-page-kinds.ps
+abbrev write-page-below : ℕ → In 8 write-page-kinds.ps
 write-page-below t =
-    and 6 write-page-kinds.ps (falls 6 write-page-kinds.ps _<_ μ-write-page t) write-page.Pre
+    and 8 write-page-kinds.ps (falls 8 write-page-kinds.ps _<_ μ-write-page t) write-page.Pre
 
 abbrev write-gap-claims : ℕ → write-gap-lts.Claims
 write-gap-claims t = (
@@ -58,8 +58,8 @@ write-gap-claims t = (
   nothing-below-reads.Learnt,
   write-page-below t,
   write-page.Post,
-  digest-of-reads.Asked,
-  digest-of-reads.Learnt,
+  page-digest-reads.Asked,
+  page-digest-reads.Learnt,
 )
 
 write-gap-has-page-requires : (t : ℕ) → write-gap-lts.Need-has-page-requires (write-gap-claims t) (write-gap-at t) write-gap.Post
@@ -72,14 +72,14 @@ write-gap-returns : (t : ℕ) → write-gap-lts.Need-returns (write-gap-claims t
 write-gap-returns t c =
     let after-if1 = c .before in
     let after-has-page = after-if1 .before in
-    let start = after-has-page .before .before .before .before .before .before .before in
+    let start = after-has-page .before .before .before .before .before .before .before .before .before in
     let a = start .args in
-    (gap-nothing (a .layer) (recordIn (a .s .now) (a .u .now) (a .row .now)) (a .lo) (a .hi - a .lo) (a .out .now) (a .out .now) (after-has-page .has-page .result) (after-has-page .has-page .ensures) (after-if1 .if1 .taken) (c .nothing-below .result) (c .nothing-below .ensures), start .pre .1 .memory)
+    (gap-nothing (a .layer) (recordIn (a .s .now) (a .u .now) (a .row .now)) (a .lo) (a .hi - a .lo) (a .out .now) (a .out .now) (after-has-page .has-page .result) (after-has-page .has-page .ensures) (after-if1 .if1 .taken) (c .nothing-below .result) (c .nothing-below .ensures), start .pre .1 .0 .memory)
 
 write-gap-sub-write-page : (t : ℕ) → write-gap-lts.Need-sub-write-page (write-gap-claims t) (write-gap-at t) write-gap.Post
 write-gap-sub-write-page t c =
     let after-has-page = c .before in
-    let start = after-has-page .before .before .before .before .before .before .before in
+    let start = after-has-page .before .before .before .before .before .before .before .before .before in
     let a = start .args in
     omega (arith, gap-layer (a .layer) (recordIn (a .s .now) (a .u .now) (a .row .now)) (a .lo) (a .hi - a .lo) (a .out .now) (a .out .now) (after-has-page .has-page .result) (after-has-page .has-page .ensures) (c .if1 .left))
 
@@ -87,7 +87,7 @@ write-gap-write-page-requires : (t : ℕ) → write-gap-lts.Need-write-page-requ
 write-gap-write-page-requires t c κs =
     let after-if1 = c .before .before .before in
     let after-has-page = after-if1 .before in
-    let start = after-has-page .before .before .before .before .before .before .before in
+    let start = after-has-page .before .before .before .before .before .before .before .before .before in
     let a = start .args in
     (omega (arith, start .pre .0, gap-layer (a .layer) (recordIn (a .s .now) (a .u .now) (a .row .now)) (a .lo) (a .hi - a .lo) (a .out .now) (a .out .now) (after-has-page .has-page .result) (after-has-page .has-page .ensures) (after-if1 .if1 .left)), start .pre .1)
 
@@ -109,26 +109,28 @@ write-gap-returns-2 t c =
     let after-write-page = after-if2 .before .before .before .before .before .before .before .before in
     let after-if1 = after-write-page .before .before .before .before in
     let after-has-page = after-if1 .before in
-    let start = after-has-page .before .before .before .before .before .before .before in
+    let start = after-has-page .before .before .before .before .before .before .before .before .before in
     let a = start .args in
     let w = after-write-page .write-page in
     (gap-refused (a .layer) (recordIn (a .s .now) (a .u .now) (a .row .now)) (a .lo) (a .hi - a .lo) (a .out .now) _ (after-has-page .has-page .result) (after-has-page .has-page .ensures) (after-if1 .if1 .left) (w .ensures .0) (after-if2 .if2 .taken) (c .nothing-below2 .result) (c .nothing-below2 .ensures), w .ensures .1)
 
-write-gap-slice-reshare-prefix-digest-of : (t : ℕ) → write-gap-lts.Need-slice-reshare-prefix-digest-of (write-gap-claims t) (write-gap-at t) write-gap.Post
-write-gap-slice-reshare-prefix-digest-of t c =
+write-gap-slice-reshare-prefix-page-digest : (t : ℕ) → write-gap-lts.Need-slice-reshare-prefix-page-digest (write-gap-claims t) (write-gap-at t) write-gap.Post
+write-gap-slice-reshare-prefix-page-digest t c =
     let after-write-page = c .before .before .before .before .before .before .before .before in
     let w = after-write-page .write-page in
-    own-fits (w .ensures .0) (c .if2 .left) (w .kept .1 .1 .1 .1 .1 .1 .1 .1 .0)
+    own-fits (w .ensures .0) (c .if2 .left) (w .kept .1 .1 .1 .1 .1 .1 .1 .1 .1 .1 .1 .1 .0)
 
-write-gap-slice-aggregate-digest-of : (t : ℕ) → write-gap-lts.Need-slice-aggregate-digest-of (write-gap-claims t) (write-gap-at t) write-gap.Post
-write-gap-slice-aggregate-digest-of t c =
+write-gap-slice-aggregate-page-digest : (t : ℕ) → write-gap-lts.Need-slice-aggregate-page-digest (write-gap-claims t) (write-gap-at t) write-gap.Post
+write-gap-slice-aggregate-page-digest t c =
     let after-if2 = c .before in
     let after-write-page = after-if2 .before .before .before .before .before .before .before .before in
     let w = after-write-page .write-page in
-    sym (length-take-le (w .result .own) _ (own-fits (w .ensures .0) (after-if2 .if2 .left) (w .kept .1 .1 .1 .1 .1 .1 .1 .1 .0)))
+    sym (length-take-le (w .result .own) _ (own-fits (w .ensures .0) (after-if2 .if2 .left) (w .kept .1 .1 .1 .1 .1 .1 .1 .1 .1 .1 .1 .1 .0)))
 
-write-gap-digest-of-requires : (t : ℕ) → write-gap-lts.Need-digest-of-requires (write-gap-claims t) (write-gap-at t) write-gap.Post
-write-gap-digest-of-requires t c κs = search needs
+write-gap-page-digest-requires : (t : ℕ) → write-gap-lts.Need-page-digest-requires (write-gap-claims t) (write-gap-at t) write-gap.Post
+write-gap-page-digest-requires t c κs =
+    let start = c .before .before .before .before .before .before .before .before .before .before .before .before .before .before .before .before .before .before .before .before .before .before .before in
+    (start .pre .1 .1, start .pre .1 .2, start .pre .1 .0 .range .room)
 
 write-gap-same-length-4 : (t : ℕ) → write-gap-lts.Need-same-length-4 (write-gap-claims t) (write-gap-at t) write-gap.Post
 write-gap-same-length-4 t c = search needs
@@ -145,10 +147,10 @@ write-gap-returns-3 t c =
     let after-write-page = after-if2 .before .before .before .before .before .before .before .before in
     let after-if1 = after-write-page .before .before .before .before in
     let after-has-page = after-if1 .before in
-    let start = after-has-page .before .before .before .before .before .before .before in
+    let start = after-has-page .before .before .before .before .before .before .before .before .before in
     let a = start .args in
     let w = after-write-page .write-page in
-    (gap-linked (a .layer) (recordIn (a .s .now) (a .u .now) (a .row .now)) (a .lo) (a .hi - a .lo) (a .out .now) _ (after-has-page .has-page .result) (after-has-page .has-page .ensures) (after-if1 .if1 .left) (w .ensures .0) (after-if2 .if2 .left) (c .digest-of .result) (c .digest-of .ensures), w .ensures .1)
+    (gap-linked (a .layer) (recordIn (a .s .now) (a .u .now) (a .row .now)) (a .lo) (a .hi - a .lo) (a .out .now) _ (after-has-page .has-page .result) (after-has-page .has-page .ensures) (after-if1 .if1 .left) (w .ensures .0) (after-if2 .if2 .left) (c .page-digest .result) (c .page-digest .ensures), w .ensures .1)
 
 abbrev write-page-claims : ℕ → write-page-lts.Claims
 write-page-claims t = (
@@ -169,17 +171,17 @@ write-page-claims t = (
 )
 
 abbrev write-page-Inv-loop : write-page-lts.InvT-loop
-write-page-Inv-loop s u row lo hi layer keys₀ notes₀ out₀ own first left at₀ tail₀ previous₀ held₀ i₀ keys notes out at tail previous held i = Going s u row lo hi layer own first tail₀ out₀ keys notes out at tail previous held i
+write-page-Inv-loop s u first-chains first-count second-chains second-count row lo hi layer keys₀ notes₀ out₀ own first left at₀ tail₀ previous₀ held₀ i₀ keys notes out at tail previous held i = Going s u row lo hi layer own first tail₀ out₀ keys notes out at tail previous held i
 
 abbrev write-page-μ-loop : write-page-lts.MeasureT-loop
-write-page-μ-loop s u row lo hi layer keys₀ notes₀ out₀ own first left at₀ tail₀ previous₀ held₀ i₀ keys notes out at tail previous held i = hi - i
+write-page-μ-loop s u first-chains first-count second-chains second-count row lo hi layer keys₀ notes₀ out₀ own first left at₀ tail₀ previous₀ held₀ i₀ keys notes out at tail previous held i = hi - i
 
 begun : (t : ℕ) (c : write-page-lts.After-write-gap (write-page-claims t) (write-page-at t) write-page.Post write-page-Inv-loop write-page-μ-loop)
     → let after-run-end = c .before .before .before .before in
     let after-measure = after-run-end .before .before .before .before .before .before in
-    let start = after-measure .before .before .before .before .before .before .before .before .before in
+    let start = after-measure .before .before .before .before .before .before .before .before .before .before .before in
     let a = start .args in
-    Begun (a .s .now) (a .u .now) (a .row .now) (a .lo) (a .hi) (a .layer) (a .out .now) (after-measure .measure .result) (after-run-end .run-end .result) (c .write-gap .last .1 .1 .1 .1 .1 .1 .1 .1 .0) (c .write-gap .result)
+    Begun (a .s .now) (a .u .now) (a .row .now) (a .lo) (a .hi) (a .layer) (a .out .now) (after-measure .measure .result) (after-run-end .run-end .result) (c .write-gap .last .1 .1 .1 .1 .1 .1 .1 .1 .1 .1 .1 .1 .0) (c .write-gap .result)
 begun t c =
     let after-run-end = c .before .before .before .before in
     let after-if1 = after-run-end .before in
@@ -189,18 +191,18 @@ begun t c =
       room = after-if1 .if1 .left;
       run = after-run-end .run-end .ensures;
       gap = c .write-gap .ensures .0;
-      kept = c .write-gap .kept .1 .1 .1 .1 .1 .1 .1 .1 .0;
+      kept = c .write-gap .kept .1 .1 .1 .1 .1 .1 .1 .1 .1 .1 .1 .1 .0;
     }
 
 same-size : (t : ℕ) (c : write-page-lts.After-write-page-start (write-page-claims t) (write-page-at t) write-page.Post write-page-Inv-loop write-page-μ-loop)
-    → let start = c .before .before .before .before .before .before .before .before .before .before .before .before .before .before .before .before .before .before .before .before .before .before .before .before .before .before .before .before .before in
+    → let start = c .before .before .before .before .before .before .before .before .before .before .before .before .before .before .before .before .before .before .before .before .before .before .before .before .before .before .before .before .before .before .before in
     length (c .write-page-start .last .0) ≡ length (start .args .out .now)
 same-size t c =
     let after-write-gap = c .before .before .before .before .before .before .before .before .before .before in
     let after-measure = after-write-gap .before .before .before .before .before .before .before .before .before .before in
-    let start = after-measure .before .before .before .before .before .before .before .before .before in
+    let start = after-measure .before .before .before .before .before .before .before .before .before .before .before in
     let b = begun t after-write-gap in
-    c .write-page-start .kept .0 ∙ back-length (after-measure .measure .result .own) (start .args .out .now) (after-write-gap .write-gap .last .1 .1 .1 .1 .1 .1 .1 .1 .0) (b .room) (b .kept)
+    c .write-page-start .kept .0 ∙ back-length (after-measure .measure .result .own) (start .args .out .now) (after-write-gap .write-gap .last .1 .1 .1 .1 .1 .1 .1 .1 .1 .1 .1 .1 .0) (b .room) (b .kept)
 
 child : (t : ℕ) (c : write-page-lts.After-write-gap2 (write-page-claims t) (write-page-at t) write-page.Post write-page-Inv-loop write-page-μ-loop)
     → let after-run-end2 = c .before .before .before .before in
@@ -209,11 +211,11 @@ child : (t : ℕ) (c : write-page-lts.After-write-gap2 (write-page-claims t) (wr
     let after-write-gap = after-write-page-start .before .before .before .before .before .before .before .before .before .before in
     let after-run-end = after-write-gap .before .before .before .before in
     let after-measure = after-run-end .before .before .before .before .before .before in
-    let start = after-measure .before .before .before .before .before .before .before .before .before in
+    let start = after-measure .before .before .before .before .before .before .before .before .before .before .before in
     let a = start .args in
     let l = after-loop .loop in
     Child (a .s .now) (a .u .now) (a .row .now) (a .lo) (a .hi) (a .layer) (after-measure .measure .result .own) (after-run-end .run-end .result) (after-measure .measure .result .own + after-write-gap .write-gap .result .len) (after-write-page-start .write-page-start .last .0)
-    (l .keys) (l .notes) (l .out) (l .at) (l .tail) (l .previous) (l .held) (l .i) (after-run-end2 .run-end2 .result) (c .write-gap2 .last .1 .1 .1 .1 .1 .1 .1 .1 .0) (c .write-gap2 .result)
+    (l .keys) (l .notes) (l .out) (l .at) (l .tail) (l .previous) (l .held) (l .i) (after-run-end2 .run-end2 .result) (c .write-gap2 .last .1 .1 .1 .1 .1 .1 .1 .1 .1 .1 .1 .1 .0) (c .write-gap2 .result)
 child t c =
     let after-run-end2 = c .before .before .before .before in
     let after-loop-test = after-run-end2 .before in
@@ -224,7 +226,7 @@ child t c =
       test = after-loop-test .loop-test .taken;
       run = after-run-end2 .run-end2 .ensures;
       gap = c .write-gap2 .ensures .0;
-      kept = c .write-gap2 .kept .1 .1 .1 .1 .1 .1 .1 .1 .0;
+      kept = c .write-gap2 .kept .1 .1 .1 .1 .1 .1 .1 .1 .1 .1 .1 .1 .0;
       whole = whole (begun t (after-write-gap));
     }
 
@@ -234,10 +236,10 @@ ended : (t : ℕ) (c : write-page-lts.After-write-page-end-arg (write-page-claim
     let after-write-gap = after-write-page-start .before .before .before .before .before .before .before .before .before .before in
     let after-run-end = after-write-gap .before .before .before .before in
     let after-measure = after-run-end .before .before .before .before .before .before in
-    let start = after-measure .before .before .before .before .before .before .before .before .before in
+    let start = after-measure .before .before .before .before .before .before .before .before .before .before .before in
     let a = start .args in
     let l = after-loop .loop in
-    Ended (a .s .now) (a .u .now) (a .row .now) (a .lo) (a .hi) (a .layer) (a .out .now) (after-measure .measure .result) (after-run-end .run-end .result) (after-write-gap .write-gap .last .1 .1 .1 .1 .1 .1 .1 .1 .0) (after-write-gap .write-gap .result)
+    Ended (a .s .now) (a .u .now) (a .row .now) (a .lo) (a .hi) (a .layer) (a .out .now) (after-measure .measure .result) (after-run-end .run-end .result) (after-write-gap .write-gap .last .1 .1 .1 .1 .1 .1 .1 .1 .1 .1 .1 .1 .0) (after-write-gap .write-gap .result)
     (after-write-page-start .write-page-start .last .0) (l .keys) (l .notes) (l .out) (l .at) (l .tail) (l .previous) (l .held) (l .i)
 ended t c =
     let after-loop-test = c .before .before in
@@ -269,7 +271,7 @@ write-page-returns : (t : ℕ) → write-page-lts.Need-returns (write-page-claim
 write-page-returns t c =
     let after-if1 = c .before in
     let after-measure = after-if1 .before .before .before .before .before in
-    let start = after-measure .before .before .before .before .before .before .before .before .before in
+    let start = after-measure .before .before .before .before .before .before .before .before .before .before .before in
     let a = start .args in
     let p = pageAt (a .s .now) (a .u .now) (a .row .now) (a .lo) (a .hi) (a .layer) in
     (no-room p (a .out .now) _ _ (omega (arith, table-longer p, after-measure .measure .ensures .0 .own, after-if1 .if1 .taken)) (c .no-room .ensures), after-measure .measure .ensures .1)
@@ -290,9 +292,9 @@ write-page-write-gap-requires : (t : ℕ) → write-page-lts.Need-write-gap-requ
 write-page-write-gap-requires t c κs =
     let after-run-end = c .before .before .before in
     let after-measure = after-run-end .before .before .before .before .before .before in
-    let start = after-measure .before .before .before .before .before .before .before .before .before in
+    let start = after-measure .before .before .before .before .before .before .before .before .before .before .before in
     let r = after-run-end .run-end in
-    (omega (arith, start .pre .0), ready-within (start .pre .1) (start .args .lo) (r .result) (after-measure .measure .ensures .1) (after-measure .measure .kept .1 .1 .1 .1 .1 .1 .1 .0 ∙ start .pre .1 .slots) (r .ensures .from) (r .ensures .to))
+    (omega (arith, start .pre .0), (ready-within (start .pre .1 .0) (start .args .lo) (r .result) (after-measure .measure .ensures .1) (after-measure .measure .kept .1 .1 .1 .1 .1 .1 .1 .0 ∙ start .pre .1 .0 .slots) (r .ensures .from) (r .ensures .to), start .pre .1 .1, start .pre .1 .2))
 
 write-page-no-room-requires-2 : (t : ℕ) → write-page-lts.Need-no-room-requires-2 (write-page-claims t) (write-page-at t) write-page.Post write-page-Inv-loop write-page-μ-loop
 write-page-no-room-requires-2 t c κs = search needs
@@ -310,7 +312,7 @@ write-page-returns-2 : (t : ℕ) → write-page-lts.Need-returns-2 (write-page-c
 write-page-returns-2 t c =
     let after-if2 = c .before in
     let after-write-gap = after-if2 .before .before .before .before .before .before .before .before in
-    let start = after-write-gap .before .before .before .before .before .before .before .before .before .before .before .before .before .before .before .before .before .before .before in
+    let start = after-write-gap .before .before .before .before .before .before .before .before .before .before .before .before .before .before .before .before .before .before .before .before .before in
     (no-room _ (start .args .out .now) _ _ (left-lacks (begun t (after-write-gap)) (after-if2 .if2 .taken)) (c .no-room2 .ensures), after-write-gap .write-gap .ensures .1)
 
 write-page-write-page-start-requires : (t : ℕ) → write-page-lts.Need-write-page-start-requires (write-page-claims t) (write-page-at t) write-page.Post write-page-Inv-loop write-page-μ-loop
@@ -323,8 +325,8 @@ write-page-add-tail : (t : ℕ) → write-page-lts.Need-add-tail (write-page-cla
 write-page-add-tail t c =
     let after-if2 = c .before .before .before .before .before in
     let after-write-gap = after-if2 .before .before .before .before .before .before .before .before in
-    let start = after-write-gap .before .before .before .before .before .before .before .before .before .before .before .before .before .before .before .before .before .before .before in
-    omega (arith, tail-fits (begun t (after-write-gap)) (after-if2 .if2 .left), start .good .1 .1 .1 .1 .1 .1 .1 .1 .0)
+    let start = after-write-gap .before .before .before .before .before .before .before .before .before .before .before .before .before .before .before .before .before .before .before .before .before in
+    omega (arith, tail-fits (begun t (after-write-gap)) (after-if2 .if2 .left), start .good .1 .1 .1 .1 .1 .1 .1 .1 .1 .1 .1 .1 .0)
 
 write-page-loop-holds : (t : ℕ) → write-page-lts.Need-loop-holds (write-page-claims t) (write-page-at t) write-page.Post write-page-Inv-loop write-page-μ-loop
 write-page-loop-holds t c =
@@ -332,20 +334,20 @@ write-page-loop-holds t c =
     let after-if2 = after-write-page-start .before .before in
     let after-write-gap = after-if2 .before .before .before .before .before .before .before .before in
     let after-measure = after-write-gap .before .before .before .before .before .before .before .before .before .before in
-    let start = after-measure .before .before .before .before .before .before .before .before .before in
+    let start = after-measure .before .before .before .before .before .before .before .before .before .before .before in
     let x = after-write-page-start .write-page-start in
     starts (begun t (after-write-gap)) (after-if2 .if2 .left) (x .last .0) (x .result) (x .ensures .0) (x .ensures .1) (same-size t (after-write-page-start)) (after-write-gap .write-gap .ensures .1)
-    (after-write-gap .write-gap .kept .1 .1 .1 .1 .1 .1 .1 .0 ∙ after-measure .measure .kept .1 .1 .1 .1 .1 .1 .1 .0 ∙ start .pre .1 .slots)
+    (after-write-gap .write-gap .kept .1 .1 .1 .1 .1 .1 .1 .1 .1 .1 .1 .0 ∙ after-measure .measure .kept .1 .1 .1 .1 .1 .1 .1 .0 ∙ start .pre .1 .0 .slots)
 
 write-page-add-run-end : (t : ℕ) → write-page-lts.Need-add-run-end (write-page-claims t) (write-page-at t) write-page.Post write-page-Inv-loop write-page-μ-loop
 write-page-add-run-end t c =
-    let start = c .before .before .before .before .before .before .before .before .before .before .before .before .before .before .before .before .before .before .before .before .before .before .before .before .before .before .before .before .before .before .before .before .before .before in
-    omega (arith, c .loop-test .taken, start .pre .1 .range .few)
+    let start = c .before .before .before .before .before .before .before .before .before .before .before .before .before .before .before .before .before .before .before .before .before .before .before .before .before .before .before .before .before .before .before .before .before .before .before .before in
+    omega (arith, c .loop-test .taken, start .pre .1 .0 .range .few)
 
 write-page-run-end-requires-2 : (t : ℕ) → write-page-lts.Need-run-end-requires-2 (write-page-claims t) (write-page-at t) write-page.Post write-page-Inv-loop write-page-μ-loop
 write-page-run-end-requires-2 t c κs =
-    let start = c .before .before .before .before .before .before .before .before .before .before .before .before .before .before .before .before .before .before .before .before .before .before .before .before .before .before .before .before .before .before .before .before .before .before in
-    (omega (arith, c .loop-test .taken), start .pre .1 .range .room)
+    let start = c .before .before .before .before .before .before .before .before .before .before .before .before .before .before .before .before .before .before .before .before .before .before .before .before .before .before .before .before .before .before .before .before .before .before .before .before in
+    (omega (arith, c .loop-test .taken), start .pre .1 .0 .range .room)
 
 write-page-add-write-gap : (t : ℕ) → write-page-lts.Need-add-write-gap (write-page-claims t) (write-page-at t) write-page.Post write-page-Inv-loop write-page-μ-loop
 write-page-add-write-gap t c = search needs
@@ -363,10 +365,10 @@ write-page-write-gap-requires-2 : (t : ℕ) → write-page-lts.Need-write-gap-re
 write-page-write-gap-requires-2 t c κs =
     let after-run-end2 = c .before .before .before in
     let after-loop = after-run-end2 .before .before in
-    let start = after-loop .before .before .before .before .before .before .before .before .before .before .before .before .before .before .before .before .before .before .before .before .before .before .before .before .before .before .before .before .before .before .before .before .before in
+    let start = after-loop .before .before .before .before .before .before .before .before .before .before .before .before .before .before .before .before .before .before .before .before .before .before .before .before .before .before .before .before .before .before .before .before .before .before .before in
     let h = after-loop .loop .inv .holding in
     let r = after-run-end2 .run-end2 in
-    (omega (arith, start .pre .0), ready-within (start .pre .1) (after-loop .loop .i + 1) (r .result) (h .memory) (h .slots) (r .ensures .from) (r .ensures .to))
+    (omega (arith, start .pre .0), (ready-within (start .pre .1 .0) (after-loop .loop .i + 1) (r .result) (h .memory) (h .slots) (r .ensures .from) (r .ensures .to), start .pre .1 .1, start .pre .1 .2))
 
 write-page-no-room-requires-3 : (t : ℕ) → write-page-lts.Need-no-room-requires-3 (write-page-claims t) (write-page-at t) write-page.Post write-page-Inv-loop write-page-μ-loop
 write-page-no-room-requires-3 t c κs = search needs
@@ -375,15 +377,15 @@ write-page-same-length-6 : (t : ℕ) → write-page-lts.Need-same-length-6 (writ
 write-page-same-length-6 t c =
     let after-write-gap2 = c .before .before .before .before .before .before .before .before .before in
     let after-loop = after-write-gap2 .before .before .before .before .before .before in
-    let start = after-loop .before .before .before .before .before .before .before .before .before .before .before .before .before .before .before .before .before .before .before .before .before .before .before .before .before .before .before .before .before .before .before .before .before in
-    after-write-gap2 .write-gap2 .kept .1 .1 .1 .1 .1 .1 .0 ∙ same-memory (start .pre .1) (after-loop .loop .inv .holding) .0
+    let start = after-loop .before .before .before .before .before .before .before .before .before .before .before .before .before .before .before .before .before .before .before .before .before .before .before .before .before .before .before .before .before .before .before .before .before .before .before in
+    after-write-gap2 .write-gap2 .kept .1 .1 .1 .1 .1 .1 .1 .1 .1 .1 .0 ∙ same-memory (start .pre .1 .0) (after-loop .loop .inv .holding) .0
 
 write-page-same-length-7 : (t : ℕ) → write-page-lts.Need-same-length-7 (write-page-claims t) (write-page-at t) write-page.Post write-page-Inv-loop write-page-μ-loop
 write-page-same-length-7 t c =
     let after-write-gap2 = c .before .before .before .before .before .before .before .before .before in
     let after-loop = after-write-gap2 .before .before .before .before .before .before in
-    let start = after-loop .before .before .before .before .before .before .before .before .before .before .before .before .before .before .before .before .before .before .before .before .before .before .before .before .before .before .before .before .before .before .before .before .before in
-    after-write-gap2 .write-gap2 .kept .1 .1 .1 .1 .1 .1 .1 .0 ∙ same-memory (start .pre .1) (after-loop .loop .inv .holding) .1
+    let start = after-loop .before .before .before .before .before .before .before .before .before .before .before .before .before .before .before .before .before .before .before .before .before .before .before .before .before .before .before .before .before .before .before .before .before .before .before in
+    after-write-gap2 .write-gap2 .kept .1 .1 .1 .1 .1 .1 .1 .1 .1 .1 .1 .0 ∙ same-memory (start .pre .1 .0) (after-loop .loop .inv .holding) .1
 
 write-page-same-length-8 : (t : ℕ) → write-page-lts.Need-same-length-8 (write-page-claims t) (write-page-at t) write-page.Post write-page-Inv-loop write-page-μ-loop
 write-page-same-length-8 t c =
@@ -398,20 +400,20 @@ write-page-returns-3 t c =
     let after-write-gap2 = after-if3 .before .before .before .before .before .before .before .before in
     let after-write-page-start = after-write-gap2 .before .before .before .before .before .before .before .before .before .before in
     let after-write-gap = after-write-page-start .before .before .before .before .before .before .before .before .before .before in
-    let start = after-write-gap .before .before .before .before .before .before .before .before .before .before .before .before .before .before .before .before .before .before .before in
+    let start = after-write-gap .before .before .before .before .before .before .before .before .before .before .before .before .before .before .before .before .before .before .before .before .before in
     (no-room _ (start .args .out .now) _ _ (child-lacks (child t (after-write-gap2)) (start .args .out .now) _ (same-size t (after-write-page-start)) (page-total (begun t (after-write-gap))) (after-if3 .if3 .taken)) (c .no-room3 .ensures), after-write-gap2 .write-gap2 .ensures .1)
 
 write-page-mul-write-record : (t : ℕ) → write-page-lts.Need-mul-write-record (write-page-claims t) (write-page-at t) write-page.Post write-page-Inv-loop write-page-μ-loop
 write-page-mul-write-record t c =
     let after-loop-test = c .before .before .before .before .before .before .before .before .before .before .before .before .before .before in
-    let start = after-loop-test .before .before .before .before .before .before .before .before .before .before .before .before .before .before .before .before .before .before .before .before .before .before .before .before .before .before .before .before .before .before .before .before .before .before in
-    omega (arith, after-loop-test .loop-test .taken, start .pre .1 .range .few)
+    let start = after-loop-test .before .before .before .before .before .before .before .before .before .before .before .before .before .before .before .before .before .before .before .before .before .before .before .before .before .before .before .before .before .before .before .before .before .before .before .before in
+    omega (arith, after-loop-test .loop-test .taken, start .pre .1 .0 .range .few)
 
 write-page-shared-slice-read-write-record : (t : ℕ) → write-page-lts.Need-shared-slice-read-write-record (write-page-claims t) (write-page-at t) write-page.Post write-page-Inv-loop write-page-μ-loop
 write-page-shared-slice-read-write-record t c =
     let after-loop-test = c .before .before .before .before .before .before .before .before .before .before .before .before .before .before .before in
-    let start = after-loop-test .before .before .before .before .before .before .before .before .before .before .before .before .before .before .before .before .before .before .before .before .before .before .before .before .before .before .before .before .before .before .before .before .before .before in
-    omega (arith, after-loop-test .loop-test .taken, start .pre .1 .range .room)
+    let start = after-loop-test .before .before .before .before .before .before .before .before .before .before .before .before .before .before .before .before .before .before .before .before .before .before .before .before .before .before .before .before .before .before .before .before .before .before .before .before in
+    omega (arith, after-loop-test .loop-test .taken, start .pre .1 .0 .range .room)
 
 write-page-slice-aggregate-write-record : (t : ℕ) → write-page-lts.Need-slice-aggregate-write-record (write-page-claims t) (write-page-at t) write-page.Post write-page-Inv-loop write-page-μ-loop
 write-page-slice-aggregate-write-record t c = search needs
@@ -431,11 +433,11 @@ write-page-write-record-requires t c κs =
     let after-write-gap2 = after-if3 .before .before .before .before .before .before .before .before in
     let after-loop-test = after-write-gap2 .before .before .before .before .before in
     let after-loop = after-loop-test .before in
-    let start = after-loop .before .before .before .before .before .before .before .before .before .before .before .before .before .before .before .before .before .before .before .before .before .before .before .before .before .before .before .before .before .before .before .before .before in
-    let r = start .pre .1 .range in
+    let start = after-loop .before .before .before .before .before .before .before .before .before .before .before .before .before .before .before .before .before .before .before .before .before .before .before .before .before .before .before .before .before .before .before .before .before .before .before in
+    let r = start .pre .1 .0 .range in
     let l = after-loop .loop in
     let v = r .stands (l .i) (after-loop-test .loop-test .taken) in
-    (r .first, r .second, v, still-holding (l .inv .holding) (after-write-gap2 .write-gap2 .ensures .1) (after-write-gap2 .write-gap2 .kept .1 .1 .1 .1 .1 .1 .1 .0), coded-room (child t (after-write-gap2)) (after-if3 .if3 .left) v)
+    (r .first, r .second, v, still-holding (l .inv .holding) (after-write-gap2 .write-gap2 .ensures .1) (after-write-gap2 .write-gap2 .kept .1 .1 .1 .1 .1 .1 .1 .1 .1 .1 .1 .0), coded-room (child t (after-write-gap2)) (after-if3 .if3 .left) v)
 
 write-page-add-at : (t : ℕ) → write-page-lts.Need-add-at (write-page-claims t) (write-page-at t) write-page.Post write-page-Inv-loop write-page-μ-loop
 write-page-add-at t c =
@@ -445,19 +447,19 @@ write-page-add-at t c =
     let after-loop-test = after-write-gap2 .before .before .before .before .before in
     let after-loop = after-loop-test .before in
     let after-if1 = after-loop .before .before .before .before .before .before .before .before .before .before .before .before .before .before .before .before .before .before .before in
-    let start = after-if1 .before .before .before .before .before .before .before .before .before .before .before .before .before .before in
+    let start = after-if1 .before .before .before .before .before .before .before .before .before .before .before .before .before .before .before .before in
     let l = after-loop .loop in
-    let v = start .pre .1 .range .stands (l .i) (after-loop-test .loop-test .taken) in
+    let v = start .pre .1 .0 .range .stands (l .i) (after-loop-test .loop-test .taken) in
     let w = after-write-record .write-record in
-    omega (arith, at-more (child t (after-write-gap2)) (after-if3 .if3 .left) v (w .ensures) (w .kept .1 .1 .1 .1 .1 .1 .1 .1 .1 .0), after-if1 .if1 .left, start .good .1 .1 .1 .1 .1 .1 .1 .1 .0)
+    omega (arith, at-more (child t (after-write-gap2)) (after-if3 .if3 .left) v (w .ensures) (w .kept .1 .1 .1 .1 .1 .1 .1 .1 .1 .0), after-if1 .if1 .left, start .good .1 .1 .1 .1 .1 .1 .1 .1 .1 .1 .1 .1 .0)
 
 write-page-add-tail-2 : (t : ℕ) → write-page-lts.Need-add-tail-2 (write-page-claims t) (write-page-at t) write-page.Post write-page-Inv-loop write-page-μ-loop
 write-page-add-tail-2 t c =
     let after-if3 = c .before .before .before .before .before .before .before .before .before .before .before .before .before .before .before .before in
     let after-write-gap2 = after-if3 .before .before .before .before .before .before .before .before in
     let after-write-page-start = after-write-gap2 .before .before .before .before .before .before .before .before .before .before in
-    let start = after-write-page-start .before .before .before .before .before .before .before .before .before .before .before .before .before .before .before .before .before .before .before .before .before .before .before .before .before .before .before .before .before in
-    omega (arith, tail-more (child t (after-write-gap2)) (after-if3 .if3 .left), same-size t (after-write-page-start), start .good .1 .1 .1 .1 .1 .1 .1 .1 .0)
+    let start = after-write-page-start .before .before .before .before .before .before .before .before .before .before .before .before .before .before .before .before .before .before .before .before .before .before .before .before .before .before .before .before .before .before .before in
+    omega (arith, tail-more (child t (after-write-gap2)) (after-if3 .if3 .left), same-size t (after-write-page-start), start .good .1 .1 .1 .1 .1 .1 .1 .1 .1 .1 .1 .1 .0)
 
 write-page-loop-less : (t : ℕ) → write-page-lts.Need-loop-less (write-page-claims t) (write-page-at t) write-page.Post write-page-Inv-loop write-page-μ-loop
 write-page-loop-less t c =
@@ -472,9 +474,9 @@ write-page-loop-again t c =
     let after-write-gap2 = after-if3 .before .before .before .before .before .before .before .before in
     let after-loop-test = after-write-gap2 .before .before .before .before .before in
     let after-loop = after-loop-test .before in
-    let start = after-loop .before .before .before .before .before .before .before .before .before .before .before .before .before .before .before .before .before .before .before .before .before .before .before .before .before .before .before .before .before .before .before .before .before in
+    let start = after-loop .before .before .before .before .before .before .before .before .before .before .before .before .before .before .before .before .before .before .before .before .before .before .before .before .before .before .before .before .before .before .before .before .before .before .before in
     let l = after-loop .loop in
-    let v = start .pre .1 .range .stands (l .i) (after-loop-test .loop-test .taken) in
+    let v = start .pre .1 .0 .range .stands (l .i) (after-loop-test .loop-test .taken) in
     let w = after-write-record .write-record in
     goes-on (child t (after-write-gap2)) (after-if3 .if3 .left) v (w .ensures) (w .kept .1 .1 .1 .1 .1 .1 .1 .1 .1 .0)
 
@@ -493,14 +495,14 @@ write-page-write-page-end-requires t c κs = last-room (ended t c)
 write-page-same-length-9 : (t : ℕ) → write-page-lts.Need-same-length-9 (write-page-claims t) (write-page-at t) write-page.Post write-page-Inv-loop write-page-μ-loop
 write-page-same-length-9 t c =
     let after-loop = c .before .before .before .before .before .before in
-    let start = after-loop .before .before .before .before .before .before .before .before .before .before .before .before .before .before .before .before .before .before .before .before .before .before .before .before .before .before .before .before .before .before .before .before .before in
-    same-memory (start .pre .1) (after-loop .loop .inv .holding) .0
+    let start = after-loop .before .before .before .before .before .before .before .before .before .before .before .before .before .before .before .before .before .before .before .before .before .before .before .before .before .before .before .before .before .before .before .before .before .before .before in
+    same-memory (start .pre .1 .0) (after-loop .loop .inv .holding) .0
 
 write-page-same-length-10 : (t : ℕ) → write-page-lts.Need-same-length-10 (write-page-claims t) (write-page-at t) write-page.Post write-page-Inv-loop write-page-μ-loop
 write-page-same-length-10 t c =
     let after-loop = c .before .before .before .before .before .before in
-    let start = after-loop .before .before .before .before .before .before .before .before .before .before .before .before .before .before .before .before .before .before .before .before .before .before .before .before .before .before .before .before .before .before .before .before .before in
-    same-memory (start .pre .1) (after-loop .loop .inv .holding) .1
+    let start = after-loop .before .before .before .before .before .before .before .before .before .before .before .before .before .before .before .before .before .before .before .before .before .before .before .before .before .before .before .before .before .before .before .before .before .before .before in
+    same-memory (start .pre .1 .0) (after-loop .loop .inv .holding) .1
 
 write-page-same-length-11 : (t : ℕ) → write-page-lts.Need-same-length-11 (write-page-claims t) (write-page-at t) write-page.Post write-page-Inv-loop write-page-μ-loop
 write-page-same-length-11 t c = search needs
@@ -533,9 +535,9 @@ pub +write-gap+write-page-spec : {M : Type 1} → statement M
     (write-gap-same-length-2 t)
     (write-gap-same-length-3 t)
     (write-gap-returns-2 t)
-    (write-gap-slice-reshare-prefix-digest-of t)
-    (write-gap-slice-aggregate-digest-of t)
-    (write-gap-digest-of-requires t)
+    (write-gap-slice-reshare-prefix-page-digest t)
+    (write-gap-slice-aggregate-page-digest t)
+    (write-gap-page-digest-requires t)
     (write-gap-same-length-4 t)
     (write-gap-same-length-5 t)
     (write-gap-same-length-6 t)

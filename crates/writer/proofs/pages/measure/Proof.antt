@@ -46,7 +46,7 @@ recall-requires c κs =
     let start = after-loop .before .before .before .before .before .before .before in
     let l = after-loop .loop in
     let p = start .pre in
-    (p .range .first, p .range .second, p .range .stands (l .i) (after-loop-test .loop-test .taken), l .inv .holding .memory, omega (arith, l .inv .holding .slots), omega (arith, l .inv .holding .slots))
+    (p .range .first, p .range .second, p .range .stands (l .i) (after-loop-test .loop-test .taken) .held, l .inv .holding .memory, omega (arith, l .inv .holding .slots), omega (arith, l .inv .holding .slots))
 
 add-to : tie.Need-add-to Inv-loop μ-loop
 add-to c = search needs

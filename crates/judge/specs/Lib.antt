@@ -1,0 +1,4 @@
+pub mod Layers
+pub mod Digests
+pub mod Prefixes
+pub mod Verdict

@@ -1,0 +1,19 @@
+-- The verdict, with the rows of what is accepted.
+use Prim.Native.Nat.{ℕ, _≤_}
+use mathlib.Core.Path.{_≡_}
+use mathlib.Core.Bool.{Bool}
+use mathlib.Core.List.{List}
+use Rattle.tree.specs.Judge.{most, prefixesRight, refused, judge}
+use Rattle.index.specs.Walk.{Walks}
+use Rattle.index.specs.Accepted.{AcceptedIndex, ChainRow}
+use Rattle.index.specs.declared.walk.State.{State}
+use Rattle.judge.specs.declared.Register.{Register}
+use Rattle.judge.specs.declared.Register.the-variants.{Accepted, Refused}
+
+-- Whether the prefix lengths of a register that was walked through are right.
+unfoldable pub PrefixesSay : List ℕ → List ℕ → State → Bool → Type 0
+PrefixesSay s row st r = (index : List ℕ) (w : Walks s index row st) → st .count ≤ most → r ≡ prefixesRight (w .root)
+
+abbrev pub RegisterSays : List ℕ → Register → List ℕ → List ℕ → Type 0
+RegisterSays s (Accepted count n) index row = AcceptedIndex s index count × ChainRow s row n
+RegisterSays s (Refused r) index row = judge s ≡ refused r

@@ -1,0 +1,35 @@
+// The prefix lengths of a register's entries: one pass over the row of its chains. Keys may be longer than any lawful one.
+use index::buffer::prefixes_fit;
+use page::reading::PageRead;
+use page::reading::read_page;
+ghost use Prim.Native.Nat.{_*_, _≤_};
+ghost use lib.ListN.{length};
+ghost use Rattle.judge.specs.Prefixes.{PagePrefixes, RowPrefixes};
+
+// Whether the prefix lengths of the page at a place are right.
+fn page_prefixes(s: &[u8], page: usize, buffer: &mut [u8]) -> bool
+    requires { ⌜ 65536 ≤ length (now buffer) ⌝ }
+    ensures { λ r. ⌜ PagePrefixes (now (s .entry)) page r ⌝ }
+{
+    match read_page(s, page) {
+        PageRead::Page(p) => prefixes_fit(s, p.first, p.count, buffer),
+        PageRead::PageStop(_) => true,
+    }
+}
+
+// Whether those of the pages of the first n chains of a row are right.
+pub fn prefixes_hold(s: &[u8], row: &[u64], n: usize) -> bool
+    requires { ⌜ 2 * n ≤ length (now row) ⌝ }
+    ensures { λ r. ⌜ RowPrefixes (now (s .entry)) (now (row .entry)) n r ⌝ }
+{
+    let mut buffer = [0u8; 65536];
+    let mut i = 0;
+    while i < n {
+        let page = (row[2 * i] % 0x100_0000) as usize;
+        if !page_prefixes(s, page, &mut buffer) {
+            return false;
+        }
+        i += 1;
+    }
+    true
+}
