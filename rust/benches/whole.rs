@@ -1,16 +1,18 @@
 //! The times of all fourteen calls on ordinary records, beside the independent crate and beside
 //! what the calls cannot do without: hashing each page and each key of the lent registers once.
 //! Also the difference of two full registers that are nearly the same, and of two with nothing in
-//! common, beside their targets.
+//! common, and the calls on registers that a careless reader is slow on. Targets stand beside.
 
 #[path = "../tests/common/mod.rs"]
 mod common;
+mod hard;
 mod subject;
 mod timing;
 
 use common::neighbours::Neighbour;
 use common::sets::{part, set, Kind};
 use common::writes::{length_in, Call};
+use hard::Hard;
 use independent::Set;
 use std::hint::black_box;
 use std::time::Duration;
@@ -204,7 +206,7 @@ fn beside<'a>(name: &'static str, call: Neighbour, whole: &'a Subject) -> Case<'
 }
 
 /// Gives two sets of 4,096 records each: with all but 10 in common, and with none.
-fn full_pairs() -> [(&'static str, f64, [Subject; 2]); 2] {
+fn full_pairs() -> [(&'static str, [Subject; 2]); 2] {
     let all = set(Kind::Ordinary, 8_192);
     let subject = |set: Set| {
         assert_eq!(set.len(), 4_096);
@@ -218,10 +220,151 @@ fn full_pairs() -> [(&'static str, f64, [Subject; 2]); 2] {
     });
     let far = [0, 1].map(|which| subject(part(&all, |n| n % 2 == which)));
     [
-        ("10 records apart", 2.6, near),
-        ("nothing in common", 4.0, far),
+        ("difference, 10 apart", near),
+        ("difference, nothing shared", far),
     ]
 }
+
+/// The most that a call may take at 4,096 records, beside hash-once.
+fn most_beside_hash_once(name: &str) -> Option<f64> {
+    match name {
+        "check" => Some(1.2),
+        "put" | "join" | "remove" => Some(1.5),
+        "merge" => Some(2.2),
+        "difference, 10 apart" => Some(1.3),
+        "difference, nothing shared" => Some(1.78),
+        _ => None,
+    }
+}
+
+/// The most that a call may take at any count, beside the independent crate.
+const MOST_BESIDE_INDEPENDENT: f64 = 0.95;
+
+/// The most that a call may take for each byte hashed, beside the same call on ordinary records.
+const MOST_BESIDE_ORDINARY: f64 = 2.0;
+
+/// Says which targets the ratios miss.
+fn missed(ratios: &[(f64, Option<f64>)]) -> String {
+    let mut text = String::new();
+    for (ratio, most) in ratios {
+        if let Some(most) = most.filter(|most| ratio > most) {
+            text += &format!("  over {most}");
+        }
+    }
+    text
+}
+
+/// Writes a row of the table.
+fn row(count: usize, name: &str, times: &Times) -> String {
+    let beside_hash_once = times.library / times.hash_once;
+    let beside_independent = times.library / times.independent;
+    let most = most_beside_hash_once(name).filter(|_| count == 4_096);
+    format!(
+        "{count:>7}  {name:<27} {:>9.2} {:>9.2} {:>12.2} {:>10.2} {:>12.2}{}",
+        times.library * 1e6,
+        times.hash_once * 1e6,
+        times.independent * 1e6,
+        beside_hash_once,
+        beside_independent,
+        missed(&[
+            (beside_hash_once, most),
+            (beside_independent, Some(MOST_BESIDE_INDEPENDENT)),
+        ])
+    )
+}
+
+/// Times the calls at so many records, and the differences of these pairs, and writes their rows.
+fn print_all_calls(count: usize, pairs: &[(&'static str, [Subject; 2])]) {
+    let made = Lent::new(count);
+    let lent = [
+        [&made.without; 2],
+        [&made.whole; 2],
+        [&made.parts[0], &made.parts[1]],
+        [&made.without, &made.whole],
+    ];
+    let pairs: Vec<_> = pairs
+        .iter()
+        .map(|(name, [first, second])| (*name, [first, second]))
+        .collect();
+    let mut cases = all_calls(&made.whole, &lent);
+    for (name, lent) in &pairs {
+        let call = Call::difference(&lent[1].register);
+        cases.push(Case::write(name, lent, call));
+    }
+    for (times, case) in times(&mut cases).iter().zip(&cases) {
+        println!("{}", row(count, case.name, times));
+    }
+    println!();
+}
+
+/// Four calls on a pair of registers: check and put are lent the first, merge and difference both.
+/// An output is just long enough, or as long as the first register where the call is refused.
+fn calls_on_pair<'a>([first, second]: [&'a [u8]; 2]) -> [Box<dyn FnMut() + 'a>; 4] {
+    let write = |call: Call| -> Box<dyn FnMut() + 'a> {
+        let mut out = vec![0; first.len() + second.len()];
+        let length = call.safe(first, &mut out).map_or(first.len(), length_in);
+        out.truncate(length);
+        Box::new(move || {
+            let _ = black_box(call.safe(black_box(first), &mut out));
+        })
+    };
+    [
+        Box::new(move || {
+            let _ = black_box(mijdegen::check(black_box(first)));
+        }),
+        write(Call::put(b"a/b1", &[0x77; 32])),
+        write(Call::merge(second)),
+        write(Call::difference(second)),
+    ]
+}
+
+/// Times the four calls on hard registers beside ordinary ones and writes the ratios of the times
+/// for each byte hashed.
+fn print_hard_calls(ordinary: &[Subject; 2]) {
+    println!("{:<36} {:>12}  {}", "registers", "bytes hashed", HARD_CALLS);
+    for hard in Hard::all() {
+        let pairs = [
+            (
+                ordinary.each_ref().map(|subject| &subject.register[..]),
+                ordinary.each_ref().map(Subject::hashed),
+            ),
+            (hard.registers.each_ref().map(Vec::as_slice), hard.hashed),
+        ];
+        let mut owned: Vec<_> = pairs
+            .iter()
+            .flat_map(|(pair, _)| calls_on_pair(*pair))
+            .collect();
+        let mut tasks: Vec<&mut dyn FnMut()> = Vec::new();
+        for task in &mut owned {
+            tasks.push(task.as_mut());
+        }
+        let times = best_times_within(EACH, &mut tasks);
+        // Check and put hash the first register, merge and difference both.
+        let [usual, all] = pairs.map(|(_, [first, second])| {
+            [first, first, first + second, first + second].map(|bytes| bytes as f64)
+        });
+        let ratios: Vec<f64> = (0..4)
+            .map(|n| (times[4 + n] / all[n]) / (times[n] / usual[n]))
+            .collect();
+        let shown: String = ratios
+            .iter()
+            .map(|ratio| format!("{ratio:>12.2}"))
+            .collect();
+        let targets: Vec<_> = ratios
+            .iter()
+            .map(|ratio| (*ratio, Some(MOST_BESIDE_ORDINARY)))
+            .collect();
+        println!(
+            "{:<36} {:>12}  {shown}{}",
+            hard.name,
+            hard.hashed[0],
+            missed(&targets)
+        );
+    }
+}
+
+/// The heads of the columns of the four calls.
+const HARD_CALLS: &str = "       check         put       merge  difference";
 
 fn main() {
     println!("Times of one call in microseconds, best of many samples, all of one count taken in");
@@ -229,62 +372,31 @@ fn main() {
         "turn. Hash-once is the library's digest of each page and each key, once each, of the"
     );
     println!(
-        "lent registers; for digest and layer, of the input, which is the register. Put gives"
+        "lent registers, called as C does in a bare loop; for digest and layer, of the input,"
     );
-    println!("so many records and merge joins two halves of them. Difference is of the register");
-    println!("without one record and the whole one. At_or_after and before are of the middle key.");
-    println!("Slash is one call for each key, beside the digest of each key. Outputs are just");
-    println!("long enough.\n");
     println!(
-        "{:>7}  {:<24} {:>9} {:>9} {:>12} {:>10} {:>12}",
+        "which is the register. Put gives so many records and merge joins two halves of them."
+    );
+    println!(
+        "Difference is of the register without one record and the whole one; the last two are"
+    );
+    println!(
+        "of two registers of 4,096 records. At_or_after and before are of the middle key. Slash"
+    );
+    println!(
+        "is one call for each key, beside the digest of each key. Outputs are just long enough."
+    );
+    println!("What is over its target is marked.\n");
+    println!(
+        "{:>7}  {:<27} {:>9} {:>9} {:>12} {:>10} {:>12}",
         "records", "call", "library", "hash-once", "independent", "/hash-once", "/independent"
     );
-    for count in [10, 100, 1_000, 4_096] {
-        let made = Lent::new(count);
-        let lent = [
-            [&made.without; 2],
-            [&made.whole; 2],
-            [&made.parts[0], &made.parts[1]],
-            [&made.without, &made.whole],
-        ];
-        let mut cases = all_calls(&made.whole, &lent);
-        for (times, case) in times(&mut cases).iter().zip(&cases) {
-            println!("{}", row(count, case.name, times));
-        }
-        println!();
+    for count in [10, 100, 1_000] {
+        print_all_calls(count, &[]);
     }
+    print_all_calls(4_096, &full_pairs());
 
-    println!("Difference of two registers of 4,096 records each. The targets are at most so many");
-    println!("times hash-once of the two, and at most 1.00 beside the independent crate.\n");
-    let pairs = full_pairs();
-    let lent = pairs
-        .each_ref()
-        .map(|(_, _, [first, second])| [first, second]);
-    let mut cases: Vec<Case> = pairs
-        .iter()
-        .zip(&lent)
-        .map(|((name, _, [_, second]), lent)| {
-            Case::write(name, lent, Call::difference(&second.register))
-        })
-        .collect();
-    for ((times, case), (_, target, _)) in times(&mut cases).iter().zip(&cases).zip(&pairs) {
-        let met = times.library <= target * times.hash_once && times.library <= times.independent;
-        println!(
-            "{}  target {target:.2}: {}",
-            row(4_096, case.name, times),
-            if met { "met" } else { "missed" }
-        );
-    }
-}
-
-/// Writes a row of the table.
-fn row(count: usize, name: &str, times: &Times) -> String {
-    format!(
-        "{count:>7}  {name:<24} {:>9.2} {:>9.2} {:>12.2} {:>10.2} {:>12.2}",
-        times.library * 1e6,
-        times.hash_once * 1e6,
-        times.independent * 1e6,
-        times.library / times.hash_once,
-        times.library / times.independent,
-    )
+    println!("Time for each byte hashed, pages and keys, beside that of the same call on two");
+    println!("registers of 2,048 ordinary records with nothing in common:\n");
+    print_hard_calls(&Lent::new(4_096).parts);
 }

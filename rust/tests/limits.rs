@@ -2,8 +2,10 @@
 
 mod common;
 
+use common::calls::number_of;
+use common::forge::{Entry, Page};
 use common::sets::{part, set, value, Kind, FULL_KINDS};
-use common::writes::{expect_refusal, expect_table, Call};
+use common::writes::{compare_call, expect_refusal, expect_table, Call};
 use common::Random;
 use independent::{layer, merge_in, table, Set, LONGEST};
 
@@ -202,4 +204,54 @@ fn the_longest_tables() {
         cases += 3;
     }
     assert_eq!(cases, 2 * 9 + 3 * 3);
+}
+
+/// Registers of about 13,515 bytes, up to which the library takes short rows, with as many records
+/// as go into them: one page of keys that differ in their last byte.
+#[test]
+fn as_many_records_as_short_registers_have() {
+    let mut random = Random::new(3);
+    let letters = ('0'..='9').chain('A'..='Z').chain('a'..='z');
+    let keys = letters.clone().flat_map(|first| {
+        letters
+            .clone()
+            .map(move |second| format!("a/{first}{second}"))
+    });
+    let all: Set = keys
+        .map(String::into_bytes)
+        .filter(|key| layer(key) == 0)
+        .take(300)
+        .map(|key| (key, value(&mut random)))
+        .collect();
+    let mut lengths = Vec::new();
+    for count in 240..=258 {
+        let set = part(&all, |n| n < count);
+        let register = table(&set);
+        assert_eq!(number_of(&register), 0);
+        lengths.push(register.len());
+        let second = table(&part(&all, |n| n >= 300 - count));
+        let [first, next] = [count / 2, count].map(|n| all.keys().nth(n).expect("a key"));
+        for call in [
+            Call::put(b"a/-", &[0x77; 32]),
+            Call::put(next, &[0x77; 32]),
+            Call::join(first, &[0xff; 32]),
+            Call::remove(first),
+            Call::run(b"a/-", first),
+            Call::merge(&second),
+            Call::difference(&second),
+        ] {
+            let result = compare_call(&register, &call, 2 * register.len());
+            assert!(result.is_ok(), "{count} records");
+        }
+    }
+    assert!(lengths[0] < 13_515 && lengths[lengths.len() - 1] > 13_515);
+
+    // Entries of 53 bytes, the shortest that there are.
+    for count in 250..=260 {
+        let page = Page {
+            left: None,
+            entries: vec![Entry::new(b""); count],
+        };
+        assert_eq!(number_of(&page.table()), 7);
+    }
 }

@@ -37,7 +37,7 @@ unfolding AppendedSoFar
 appended-none row k rest = paste-zero row k rest
 
 module _ (row : List ℕ) (k : ℕ) (rest row′ : List ℕ) (i : ℕ) (u : AppendedSoFar row k rest row′ i)
-    (few : k + length rest ≤ most) (room : most ≤ length row) where
+    (few : k + length rest ≤ most) (room : k + length rest ≤ length row) where
   pub appended-more : i < length rest → AppendedSoFar row k rest (set row′ (k + i) (getD rest i 0)) (i + 1)
   unfolding AppendedSoFar
   appended-more h = rw (u, add-one i) (paste-suc row k rest i 0 (omega arith) h)

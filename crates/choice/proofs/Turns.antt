@@ -55,6 +55,20 @@ module _ (s u : List ℕ) (g : Bool) (x y : ℕ) where
       let second : recordOf s u y ≡ record { key = recordOf s u x .key; val = valueOf y } = λ i. record { key = sym e i; val = valueOf y } in
       cases g (λ h. rw h (cases (less (valueOf x) (valueOf y)) (λ l. rw l second) (λ l. rw l refl))) (λ h. rw h second)
 
+  -- the word that is chosen for the values at these places
+  module _ (place other w : ℕ) (first : take 32 (drop place (sourceOf s u x)) ≡ recordOf s u x .val) (second : take 32 (drop other (sourceOf s u y)) ≡ recordOf s u y .val)
+      (chosen : w ≡ wordOf g (valueAt s u x place) (valueAt s u y other) x y) where
+    word-is : w ≡ word
+    unfolding valueAt
+    word-is = chosen ∙ rw (first, second)
+
+    pub word-stands : Stands s u x → Stands s u y → Stands s u w
+    word-stands h k = rw word-is (word-either (Stands s u) h k)
+
+    pub word-spells : recordOf s u x .key ≡ recordOf s u y .key
+        → recordOf s u w ≡ record { key = recordOf s u x .key; val = choiceOf g (recordOf s u x .val) (recordOf s u y .val) }
+    word-spells e = rw word-is (word-record e)
+
 -- ---- the choice so far
 -- The first k words of the row stand for records, and the rest of both rows, woven, makes them whole.
 pub record SoFar (s u first : List ℕ) (n : ℕ) (second : List ℕ) (m : ℕ) (g : Bool) (row keys notes others marks : List ℕ) (a b : Cursor) (k : ℕ) : Type 0 where
@@ -237,14 +251,11 @@ module _ (s u first : List ℕ) (n : ℕ) (second : List ℕ) (m : ℕ) (g : Boo
               (ew : w ≡ wordOf g (valueAt s u (getD first (a .at) 0) (a .value)) (valueAt s u (getD second (b .at) 0) (b .value)) (getD first (a .at) 0) (getD second (b .at) 0))
               (keys′ notes′ : List ℕ) (a′ : Cursor) (c : (a′ .at ≡ a .at + 1) × Held s u first n keys′ notes′ a′) (l : length notes′ ≡ 64)
               (others′ marks′ : List ℕ) (b′ : Cursor) (d : (b′ .at ≡ b .at + 1) × Held s u second m others′ marks′ b′) (r : length marks′ ≡ 64) where
-            word-is : w ≡ word s u g x y
-            unfolding valueAt
-            word-is = ew ∙ rw (recalledFirst .val, recalledSecond .val)
-
             pub turn-both : SoFar s u first n second m g (set row k w) keys′ notes′ others′ marks′ a′ b′ (k + 1)
             turn-both =
                 let same-key = order-equal (recordOf s u x .key) (recordOf s u y .key) (keys-order ∙ q) in
                 turn w (record { key = recordOf s u x .key; val = choiceOf g (recordOf s u x .val) (recordOf s u y .val) }) (a .at + 1) (b .at + 1)
-                (rw word-is (word-either s u g x y (Stands s u) stands-first stands-second)) (rw word-is (word-record s u g x y same-key))
+                (word-stands s u g x y (a .value) (b .value) w (recalledFirst .val) (recalledSecond .val) ew stands-first stands-second)
+                (word-spells s u g x y (a .value) (b .value) w (recalledFirst .val) (recalledSecond .val) ew same-key)
                 (rw (first-cons, second-cons) (weave-both (choiceOf g) (recordOf s u x) _ (recordOf s u y) _ same-key))
                 keys′ notes′ others′ marks′ a′ b′ (c .0) (d .0) (omega arith) (omega arith) (c .1) (d .1) l r

@@ -1,14 +1,19 @@
 -- Two sets woven into one: with one record it is an insertion, and with the greater values a merge. And a set without one of its records.
-use Prim.Native.Nat.{ℕ, zero, suc, _≤_, _<_}
+use Prim.Native.Nat.{ℕ, zero, suc, _+_, _≤_, _<_}
 use mathlib.Core.Path.{_≡_, refl, sym, ap, _∙_}
 use mathlib.Core.Bool.{true, false}
 use mathlib.Core.Option.{some}
 use mathlib.Core.List.{List, [], _∷_, _++_}
+use native.Mathlib.Numerals.{add-one}
 use native.Mathlib.Omega.{arith}
 use lib.ListN.{length, take, drop, getD}
+use borrow.Table.Steps.{cases}
+use Rattle.key.specs.Key.{less}
 use Rattle.key.proofs.Laws.{less-connected, less-asymmetric, less-same}
 use Rattle.tree.specs.Record.{Record}
 use Rattle.promises.specs.Map.{find, insert, put, greater, join, remove, merge}
+use Rattle.row.specs.Row.{nothing}
+use Rattle.row.specs.Search.{keyAt, countBelow, countUpTo}
 use Rattle.choice.specs.Choice.{choiceOf, before, weave}
 use Rattle.promises.proofs.MapLaws.{Before, Above, Sorted, above-before, insert-before, insert-here, insert-later, find-here, find-later, remove-here, remove-later}
 
@@ -109,3 +114,39 @@ module _ (k : List ℕ) (d : Record) where
   find-at (x ∷ m) s zero h e = find-here k x m (sym e)
   find-at (x ∷ m) s (suc i) h e =
       find-later k x m (rw e at (above-at (x .key) m d (s .0) i (omega arith))) ∙ find-at m (s .1) i (omega arith) e
+
+-- ---- one record woven in at the position of its key
+module _ (choose : List ℕ → List ℕ → List ℕ) (x : Record) where
+  -- a record before x stays where it is
+  behind : (r : Record) (m l : List Record) → Before (r .key) (x .key) → weave choose m (x ∷ []) ≡ l → weave choose (r ∷ m) (x ∷ []) ≡ r ∷ l
+  behind r m l h e = weave-first choose r m x [] h ∙ ap (λ (y : List Record). r ∷ y) e
+
+  -- where no record has its key, it is inserted
+  pub weave-absent : (rs : List Record) (p : ℕ) → p ≡ countBelow (x .key) rs → p ≡ countUpTo (x .key) rs
+      → weave choose rs (x ∷ []) ≡ take p rs ++ (x ∷ drop p rs)
+  unfolding countBelow countUpTo
+  weave-absent [] zero = λ e f. weave-none choose (x ∷ [])
+  weave-absent [] (suc p) = λ e f. absurd (omega arith)
+  weave-absent (r ∷ m) zero =
+      cases (less (x .key) (r .key))
+      (λ h. rw h (λ e f. weave-second choose r m x [] h ∙ rw (weave-whole choose (r ∷ m))))
+      (λ h. rw h (λ e f. absurd (omega arith)))
+  weave-absent (r ∷ m) (suc p) =
+      cases (less (r .key) (x .key))
+      (λ h. rw (h, less-asymmetric (r .key) (x .key) h) (λ e f. behind r m _ h (weave-absent m p (omega arith) (omega arith))))
+      (λ h. rw h (λ e f. absurd (omega arith)))
+
+  -- where one has, its value is chosen in that one's place
+  abbrev pub chosenAt : List Record → ℕ → Record
+  chosenAt rs p = record { key = x .key; val = choose (getD rs p nothing .val) (x .val) }
+
+  weave-there : (rs : List Record) → Sorted rs → (p : ℕ) → p < length rs → keyAt rs p ≡ x .key
+      → weave choose rs (x ∷ []) ≡ take p rs ++ (chosenAt rs p ∷ drop (suc p) rs)
+  weave-there [] s p h e = absurd (omega arith)
+  weave-there (r ∷ m) s zero h e = weave-both choose r m x [] e ∙ rw (weave-whole choose m, e)
+  weave-there (r ∷ m) s (suc p) h e =
+      behind r m _ (rw e at (above-at (r .key) m nothing (s .0) p (omega arith))) (weave-there m (s .1) p (omega arith) e)
+
+  pub weave-present : (rs : List Record) → Sorted rs → (p : ℕ) → p < length rs → keyAt rs p ≡ x .key
+      → weave choose rs (x ∷ []) ≡ take p rs ++ (chosenAt rs p ∷ drop (p + 1) rs)
+  weave-present rs s p h e = rw (add-one p) (weave-there rs s p h e)

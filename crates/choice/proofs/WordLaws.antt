@@ -1,4 +1,4 @@
--- Words of rows: those of the second register, one left out, and that of a record alone.
+-- Words of rows: those of the second register, one left out, one inserted, and that of a record alone.
 use Prim.Native.Nat.{ℕ, suc, _+_, _-_, _*_, _^_, _≤_, _<_}
 use mathlib.Core.Path.{_≡_, refl, sym, ap, subst, _∙_}
 use mathlib.Core.Bool.{true, false}
@@ -9,9 +9,6 @@ use native.Mathlib.Numerals.{add-one}
 use native.Mathlib.Omega.{arith}
 use lib.ListN.{length, take, drop, getD, set, length-drop, drop-of-length-le}
 use lib.Seq.{take-all, take-suc, take-suc-set, drop-at, drop-append-le, drop-set-lt, drop-drop, getD-drop, getD-set-same, getD-set-other, length-take-le}
-use lib.Dec.{ltb}
-use borrow.Author.Tests.{ltb-true, ltb-false}
-use borrow.Table.Steps.{cases}
 use borrow.Author.Count.{below-more, below-none}
 use Rattle.key.specs.Key.{lawful, shared}
 use Rattle.key.specs.Layer.{layerOf}
@@ -24,13 +21,13 @@ use Rattle.page.specs.Front.{front, numberLength, entryLength, entryAfter, page
 use Rattle.page.proofs.Lending.{lent, back, onto}
 use Rattle.page.proofs.Numbers.{number-reads}
 use Rattle.page.proofs.Pages.{GoodEntry}
-use Rattle.page.proofs.Sizes.{length-first, length-one, length-two, length-page-start}
+use Rattle.page.proofs.Sizes.{length-first, length-page-start, most-number}
 use Rattle.index.specs.Slot.{Slot}
 use Rattle.index.specs.Standing.{here, SlotAt}
 use Rattle.index.proofs.Standing.{reads-there, entry-there, size-of-entry, value-there}
 use Rattle.row.specs.Row.{fromSecond, Stands}
 use Rattle.row.proofs.Rows.{source-second, word-record}
-use Rattle.choice.specs.Choice.{Below, ToSecond, LeftOut, Single}
+use Rattle.choice.specs.Choice.{Below, ToSecond, LeftOut, Inserted, Single}
 
 -- ---- a row that is the same from a position on
 module _ (row row′ : List ℕ) (i : ℕ) (same : drop i row′ ≡ drop i row) where
@@ -102,6 +99,35 @@ module _ (row : List ℕ) (at : ℕ) (row′ : List ℕ) (i : ℕ) (u : LeftSoFa
       let f : n ≡ i + 1 = omega arith in
       rw (e, f) (u .done)
 
+-- ---- a word inserted
+-- The words before i and the one carried are those of the row with the word at the position, and those from i on are as they were.
+pub record InsertedSoFar (row : List ℕ) (at word : ℕ) (row′ : List ℕ) (carried i : ℕ) : Type 0 where
+  pub done : take i row′ ++ (carried ∷ []) ≡ take at row ++ (word ∷ drop at (take i row))
+  pub left : drop i row′ ≡ drop i row
+
+pub inserted-none : (row : List ℕ) (at word : ℕ) → at ≤ length row → InsertedSoFar row at word row word at
+inserted-none row at word h =
+    let all : length (take at row) ≤ at = omega (arith, length-take-le at row h) in
+    record { done = rw (drop-of-length-le (take at row) all); left = refl }
+
+module _ (row : List ℕ) (at word : ℕ) (row′ : List ℕ) (carried i : ℕ) (u : InsertedSoFar row at word row′ carried i) where
+  pub inserted-more : at ≤ i → i < length row → length row′ ≡ length row → InsertedSoFar row at word (set row′ i carried) (getD row′ i 0) (i + 1)
+  inserted-more from h same =
+      let long : at ≤ length (take i row) = omega (arith, length-take-le i row (omega arith)) in
+      let more : drop at (take (suc i) row) ≡ drop at (take i row) ++ (getD row i 0 ∷ []) =
+      ap (drop at) (take-suc row i 0 h) ∙ drop-append-le at (take i row) (getD row i 0 ∷ []) long in
+      record {
+        done = rw (word-here row row′ i (u .left), add-one i, take-suc-set row′ i carried (omega arith), u .done, more)
+            (append-assoc (take at row) (word ∷ drop at (take i row)) (getD row i 0 ∷ []));
+        left = same-on row row′ i (u .left) carried;
+      }
+
+  pub inserted-all : (n : ℕ) → i ≤ n → n ≤ i → i < length row′ → Inserted row n at word (set row′ i carried)
+  unfolding Inserted
+  inserted-all n h g room =
+      let e : n ≡ i = omega arith in
+      rw (e, add-one i, take-suc-set row′ i carried room) (u .done)
+
 -- ---- one record alone
 abbrev entryOf : List ℕ → List ℕ → RawEntry
 entryOf key val = entryAfter [] key none val
@@ -110,13 +136,8 @@ entryOf key val = entryAfter [] key none val
 pub part-length : (l : List ℕ) (from : ℕ) → length (lent from l) ≡ length l - from
 part-length l from = rw (take-all (length l - from) (drop from l) (omega (arith, length-drop from l))) (length-drop from l)
 
-number-short : (n : ℕ) → numberLength n ≤ 3
-number-short n =
-    cases (ltb n 24) (λ e. omega (arith, length-first n (ltb-true n 24 e)))
-    (λ e. cases (ltb n 256) (λ f. omega (arith, length-one n (ltb-false n 24 e) (ltb-true n 256 f))) (λ f. omega (arith, length-two n (ltb-false n 256 f))))
-
 pub entry-short : (key : List ℕ) → length key ≤ 256 → entryLength [] key false ≤ 400
-entry-short key h = omega (arith, number-short (length key - shared [] key), number-short (shared [] key))
+entry-short key h = omega (arith, most-number (length key - shared [] key), most-number (shared [] key))
 
 module _ (key val page : List ℕ) (rule : lawful key ≡ true) (size : length val ≡ 32) (at : ℕ) (begins : at ≡ 3 + numberLength 1)
     (out ys : List ℕ) (start : out ≡ front (pageStartBytes 1) page) (entry : ys ≡ front (entryBytes (entryOf key val)) (lent at out)) where

@@ -77,6 +77,10 @@ ToSecond index n index′ = (i : ℕ) → i < n → getD index′ i 0 ≡ getD i
 unfoldable pub LeftOut : List ℕ → ℕ → ℕ → List ℕ → Type 0
 LeftOut row n at row′ = take (n - 1) row′ ≡ take at row ++ drop (at + 1) (take n row)
 
+-- Among the first n words, one more stands at a position.
+unfoldable pub Inserted : List ℕ → ℕ → ℕ → ℕ → List ℕ → Type 0
+Inserted row n at word row′ = take (n + 1) row′ ≡ take at row ++ (word ∷ drop at (take n row))
+
 -- Where the second register is these bytes, the word stands for the record of this key and value.
 pub record Single (key val bytes : List ℕ) (w : ℕ) : Type 0 where
   pub stands : (s : List ℕ) → Stands s bytes w

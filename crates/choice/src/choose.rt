@@ -70,7 +70,7 @@ pub fn order_of(keys: &[u8], a: Cursor, others: &[u8], b: Cursor) -> Order
 }
 
 // Of two words for records under one key: the second, or the word of the greater value. The values stand at these places.
-fn word_of(
+pub fn word_of(
     s: &[u8],
     u: &[u8],
     greater: bool,
@@ -94,9 +94,9 @@ fn word_of(
     }
 }
 
-// The rest of a row, behind the k words chosen so far.
+// The rest of a row, behind the k words chosen so far. There is room for all that is not too many.
 pub fn append(row: &mut [u64], k: usize, rest: &[u64]) -> Chosen
-    requires { ⌜ (k ≤ most) × (most ≤ length (now row)) ⌝ }
+    requires { ⌜ (k ≤ most) × (k + length (now rest) ≤ most → k + length (now rest) ≤ length (now row)) ⌝ }
     ensures { λ r. ⌜ AppendSays (now (row .entry)) k (now (rest .entry)) r (now (row .exit)) ⌝ }
 {
     if MOST - k < rest.len() {

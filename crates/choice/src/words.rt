@@ -7,7 +7,7 @@ ghost use mathlib.Core.Bool.{true};
 ghost use Prim.Native.Nat.{_≤_, _<_};
 ghost use lib.ListN.{length};
 ghost use Rattle.key.specs.Key.{lawful};
-ghost use Rattle.choice.specs.Choice.{Below, ToSecond, LeftOut, Single};
+ghost use Rattle.choice.specs.Choice.{Below, ToSecond, LeftOut, Inserted, Single};
 
 // The first n words of an index become words of the second register.
 pub fn to_second(index: &mut [u64], n: usize)
@@ -31,6 +31,22 @@ pub fn leave_out(row: &mut [u64], n: usize, at: usize)
         row[i] = row[i + 1];
         i += 1;
     }
+}
+
+// A word goes to a position among the first n of a row, and those from there on move up by one.
+pub fn insert(row: &mut [u64], n: usize, at: usize, word: u64)
+    requires { ⌜ (at ≤ n) × (n < length (now row)) ⌝ }
+    ensures { λ _. ⌜ Inserted (now (row .entry)) n at word (now (row .exit)) ⌝ }
+{
+    let mut i = at;
+    let mut carried = word;
+    while i < n {
+        let next = row[i];
+        row[i] = carried;
+        carried = next;
+        i += 1;
+    }
+    row[i] = carried;
 }
 
 // One record alone, as the second register: the start of a page and the record's entry, and the word that leads to it.

@@ -3,7 +3,7 @@ use Prim.Native.Nat.{ℕ, suc, _+_, _-_, _≤_, _<_}
 use mathlib.Core.Path.{_≡_, refl, sym, subst, _∙_}
 use mathlib.Core.List.{List, [], _∷_}
 use native.Mathlib.Omega.{arith}
-use lib.ListN.{length, take, drop, take-append-drop, length-take, length-drop}
+use lib.ListN.{length, drop, length-take, length-drop}
 use Rattle.fips180.specs.Bytes.{Bytes}
 use Rattle.page.specs.Reading.{read, andThen, times}
 use Rattle.page.specs.Page.{RawEntry, entry}
@@ -13,7 +13,7 @@ use Rattle.page.specs.declared.reading.Stop.the-variants.{EndsEarly, Departs}
 use Rattle.page.specs.declared.reading.EntryAt.{EntryAt}
 use Rattle.page.specs.declared.reading.EntryRead.{EntryRead}
 use Rattle.page.specs.declared.reading.EntryRead.the-variants.{Entry, EntryStop}
-use Rattle.page.proofs.Tools.{bytes-right}
+use Rattle.page.proofs.Tools.{bytes-drop}
 use Rattle.page.proofs.Readers.{endsEarly≢read, departs≢read, read-sub, andThen-inv}
 use Rattle.page.proofs.Places.{then-stops}
 use Rattle.page.proofs.Pages.{GoodEntry, entry-spells}
@@ -33,9 +33,7 @@ module _ (s : List ℕ) (at : ℕ) (m : EntryRead) (w : EntryIs s at m) (e : Ent
 
   module _ (b : Bytes s) where
     good : GoodEntry (entryAt s e)
-    good =
-        let c : Bytes (drop at s) = bytes-right (take at s) (drop at s) (rw (take-append-drop at s) b) in
-        entry-spells .back (drop at s) (drop (e .end) s) (entryAt s e) c (entry-here .whole .reads) .1
+    good = entry-spells .back (drop at s) (drop (e .end) s) (entryAt s e) (bytes-drop at s b) (entry-here .whole .reads) .1
 
     pub shares-small : e .shares < 65536
     shares-small = good .shares

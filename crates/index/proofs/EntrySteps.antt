@@ -11,16 +11,16 @@ use lib.Dec.{eqb}
 use Rattle.key.specs.Key.{shared}
 use Rattle.fips180.specs.Bytes.{Bytes}
 use Rattle.page.specs.Reading.{read, Reader, andThen, times}
-use Rattle.page.specs.Page.{RawEntry, entry as entryReader}
-use Rattle.page.specs.Place.{stopped, linkAt, entryAt, EntryHere, EntryIs, PageIs}
+use Rattle.page.specs.Page.{RawEntry, entryBytes, entry as entryReader}
+use Rattle.page.specs.Place.{Reads, stopped, linkAt, entryAt, EntryHere, Located, LocatedIs, PageIs}
 use Rattle.page.specs.declared.reading.Stop.{Stop}
-use Rattle.page.specs.declared.reading.Stop.the-variants.{EndsEarly, Departs}
 use Rattle.page.specs.declared.reading.EntryAt.{EntryAt}
 use Rattle.page.specs.declared.reading.EntryRead.{EntryRead}
 use Rattle.page.specs.declared.reading.EntryRead.the-variants.{EntryStop}
 use Rattle.page.specs.declared.reading.PageRead.{PageRead}
-use Rattle.page.proofs.Readers.{endsEarly≢read, departs≢read, read-sub, andThen-inv}
+use Rattle.page.proofs.Readers.{read-sub, andThen-inv}
 use Rattle.page.proofs.Places.{then-stops}
+use Rattle.page.proofs.Located.{entry-place}
 use Rattle.tree.specs.Tree.{page, Gap, empty, under, Entries, end, entry, itemsUnder}
 use Rattle.tree.specs.Record.{Spelt, recordOf}
 use Rattle.tree.specs.Table.{linkOf, tableUnder, readUnder, readFrom, readTree, deepest}
@@ -28,7 +28,7 @@ use Rattle.tree.specs.Judge.{prefixesRight, prefixesRightUnder, prefixesRightFr
 use Rattle.tree.specs.Place.{lengthOfEntry}
 use Rattle.index.specs.Slot.{slots, slotsUnder, slotsFrom, filled, filledUnder, filledFrom}
 use Rattle.index.specs.Buffer.{HoldsKey, Extended, PrefixIs}
-use Rattle.index.specs.Chain.{Chain, labelsOn, chains, chainsUnder, chainsFrom, LabelsAt}
+use Rattle.index.specs.Chain.{chains, chainsUnder, chainsFrom, LabelsAt}
 use Rattle.index.specs.Walk.{holding, Moved, Outcome, PageSays, EntriesSay, Taken}
 use Rattle.index.specs.declared.walk.State.{State}
 use Rattle.index.specs.declared.walk.Walked.{Walked}
@@ -38,8 +38,8 @@ use Rattle.index.proofs.Lengths.{under-link, under-ends, entry-ends}
 use Rattle.index.proofs.SlotLaws.{slots-count}
 
 -- ---- what an answer says, at the answer that it is
-pub entry-is : (s : List ℕ) (at : ℕ) {r x : EntryRead} → EntryIs s at r → r ≡ x → EntryIs s at x
-entry-is s at w e = subst (EntryIs s at) e w
+pub located-is : (s : List ℕ) (at : ℕ) {r x : EntryRead} → LocatedIs s at r → r ≡ x → LocatedIs s at x
+located-is s at w e = subst (LocatedIs s at) e w
 
 pub page-is : (s : List ℕ) (at : ℕ) {r x : PageRead} → PageIs s at r → r ≡ x → PageIs s at x
 page-is s at w e = subst (PageIs s at) e w
@@ -115,10 +115,10 @@ times-more {A} p n l rest t xs a h q k =
     let e₂ : u ≡ rest = cc in
     k more e₁ (r ∙ ap (λ (y : List ℕ). read more y) e₂)) q′
 
-times-stops : {A : Type 0} (p : Reader A) (n : ℕ) (l rest : List ℕ) (xs : List A) (stop : Stop) → p l ≡ stopped stop → times (suc n) p l ≡ read xs rest → ⊥
+times-first : {A C : Type 0} (p : Reader A) (n : ℕ) (l rest : List ℕ) (xs : List A) → times (suc n) p l ≡ read xs rest
+    → ((a : A) (t : List ℕ) → p l ≡ read a t → C) → C
 unfolding times
-times-stops p n l rest xs EndsEarly h q = endsEarly≢read (rw h at q)
-times-stops p n l rest xs Departs h q = departs≢read (rw h at q)
+times-first p n l rest xs q k = andThen-inv (p l) (λ a t h _. k a t h) q
 
 -- the entry that was read, as it is spelt, and its key
 abbrev speltAt : List ℕ → EntryAt → Spelt
@@ -193,15 +193,20 @@ module _ {s index₀ row₀ last₀ : List ℕ} {level pg first n : ℕ} {st₀ 
     one-more = omega arith
 
     -- the next entry was there when the page was read
-    pub onward-there : (got : EntryRead) (stop : Stop) → EntryIs s at got → got ≡ EntryStop stop
+    entry-there : {C : Type 0} → Bytes s → ((a : RawEntry) (to : ℕ) → Reads entryReader s at a to → C)
+        → (es : List RawEntry) (past : ℕ) → times (n - i) entryReader (drop at s) ≡ read es (drop past s) → C
+    entry-there slice k es past q =
+        times-first entryReader (n - (i + 1)) (drop at s) (drop past s) es (rw one-more at q)
+        (λ a t h. k a (at + length (entryBytes a)) (entry-place s at a t slice h))
+
+    pub onward-there : Bytes s → (got : EntryRead) (stop : Stop) → LocatedIs s at got → got ≡ EntryStop stop
         → EntriesSay s index₀ row₀ last₀ level pg first n st₀ (Stopped stop) index row last
     unfolding RestSays
-    onward-there got stop w e =
-        so-far .onward (Stopped stop) index row last (λ es past q.
-        absurd (times-stops entryReader (n - (i + 1)) (drop at s) (drop past s) es stop (entry-is s at w e) (rw one-more at q)))
+    onward-there slice got stop w e =
+        so-far .onward (Stopped stop) index row last (λ es past q. absurd (entry-there slice (located-is s at w e) es past q))
 
-    -- it was read, its prefix was tested, its key is in the buffer, and its record was taken
-    module _ (slice : Bytes s) (e : EntryAt) (here : EntryHere s at e)
+    -- it was located, its prefix was tested, its key is in the buffer, and its record was taken
+    module _ (slice : Bytes s) (e : EntryAt) (found : Located s at e)
         (fits : Bool) (tested : PrefixIs buffer size s (e .shares) (e .remainder) (e .size) fits) (short : fits ≡ true → e .shares < length buffer)
         (buffer₁ : List ℕ) (size₁ : ℕ) (extended : Extended buffer size s (e .shares) (e .remainder) (e .size) buffer₁ size₁)
         (index₁ last₁ : List ℕ) (st₁ : State) (taken : Taken index last level pg at buffer₁ size₁ fits st st₁ index₁ last₁) where
@@ -229,14 +234,14 @@ module _ {s index₀ row₀ last₀ : List ℕ} {level pg first n : ℕ} {st₀ 
           (omega (arith, m .ahead, m .within, n), m .count, omega (arith, m .chainCount))
 
       -- it, what is under its gap, and the entries after it
-      rest-join : (index₂ row₂ last₂ : List ℕ) (st₂ : State) (es : List RawEntry) (r : Walked) (index′ row′ last′ : List ℕ)
+      rest-join : EntryHere s at e → (index₂ row₂ last₂ : List ℕ) (st₂ : State) (es : List RawEntry) (r : Walked) (index′ row′ last′ : List ℕ)
           → GapSays s index₁ row last₁ level (e .link) st₁ (Whole st₂) index₂ row₂ last₂
           → Outcome s index₂ row₂ last₂ (n - (i + 1)) (readFrom (readTree (deepest - suc level)) es (drop (st₂ .next) s))
           (slotsFrom level pg (e .end) (st₂ .next) (keyAt s e (so-far .before))) (chainsFrom (st₂ .count) (st₂ .next)) (prefixesRightFrom (keyAt s e (so-far .before))) filledFrom st₂ r index′ row′ last′
           → Outcome s index row last (n - i) (readFrom (readTree (deepest - suc level)) (entryAt s e ∷ es) (drop (st .next) s))
           (slotsFrom level pg at (st .next) (so-far .before)) (chainsFrom (st .count) (st .next)) (prefixesRightFrom (so-far .before)) filledFrom st r index′ row′ last′
       unfolding readFrom prefixesRight filled
-      rest-join index₂ row₂ last₂ st₂ es (Whole st′) index′ row′ last′ gap rest =
+      rest-join here index₂ row₂ last₂ st₂ es (Whole st′) index′ row′ last′ gap rest =
           let g : Gap Spelt (List ℕ) = gap .what in
           let (link, below) = gap-ends s index₁ row last₁ level (e .link) st₁ st₂ index₂ row₂ last₂ slice gap in
           let parts = entry-slots level pg at (st .next) (so-far .before) (speltAt s e) g (rest .what) (e .end) (st₁ .next) (st₂ .next)
@@ -253,16 +258,17 @@ module _ {s index₀ row₀ last₀ : List ℕ} {level pg first n : ℕ} {st₀ 
             fewChains = rw pages (omega (arith, onward-record, gap .fewChains, rest .fewChains, number));
             moved = rw (parts, pages) (moved-seq (record-moved s (so-far .within) (e .end - 32)) (moved-seq (gap .moved) (rest .moved)));
           }
-      rest-join index₂ row₂ last₂ st₂ es (Stopped stop) index′ row′ last′ gap rest = rw (← onward-record .0, gap .reads) (then-stops _ stop rest)
+      rest-join here index₂ row₂ last₂ st₂ es (Stopped stop) index′ row′ last′ gap rest = rw (← onward-record .0, gap .reads) (then-stops _ stop rest)
 
       -- the first of the entries left
       first-left : {C : Type 0} (es : List RawEntry) (past : ℕ) → times (n - i) entryReader (drop at s) ≡ read es (drop past s)
-          → ((later : List RawEntry) → es ≡ entryAt s e ∷ later → times (n - (i + 1)) entryReader (drop (e .end) s) ≡ read later (drop past s) → C) → C
-      first-left es past q =
-          times-more entryReader (n - (i + 1)) (drop at s) (drop past s) (drop (e .end) s) es (entryAt s e) (here .whole .reads) (rw one-more at q)
+          → (EntryHere s at e → (later : List RawEntry) → es ≡ entryAt s e ∷ later → times (n - (i + 1)) entryReader (drop (e .end) s) ≡ read later (drop past s) → C) → C
+      first-left es past q k =
+          let here : EntryHere s at e = entry-there slice (found .here) es past q in
+          times-more entryReader (n - (i + 1)) (drop at s) (drop past s) (drop (e .end) s) es (entryAt s e) (here .whole .reads) (rw one-more at q) (k here)
 
       link-within : (e .link ≡ 0 → ⊥) → e .link + 32 ≤ length s
-      link-within f = omega (arith, here .ends .link (omega (arith, f)), here .ends .value, here .whole .within)
+      link-within f = omega (arith, found .ends .link (omega (arith, f)), found .ends .value, found .within)
 
       onward-gap : length buffer₁ ≡ 256 → (index₂ row₂ last₂ : List ℕ) (st₂ : State)
           → st₁ .next ≤ st₂ .next → st₂ .next ≤ length s → st₂ .count + st₁ .next ≤ st₁ .count + st₂ .next → st₂ .chains + st₁ .next ≤ st₁ .chains + st₂ .next
@@ -275,13 +281,13 @@ module _ {s index₀ row₀ last₀ : List ℕ} {level pg first n : ℕ} {st₀ 
         within = k;
         few = omega (arith, onward-record, so-far .few);
         fewChains = omega (arith, onward-record, so-far .fewChains);
-        there = here .whole .within;
+        there = found .within;
         room = room;
         before = keyAt s e (so-far .before);
         holds = key-held;
         onward = λ r index′ row′ last′ rest.
-            so-far .onward r index′ row′ last′ (λ es past q. first-left es past q (λ later p z.
-            rw p (rest-join index₂ row₂ last₂ st₂ later r index′ row′ last′ gap (rest later past z))));
+            so-far .onward r index′ row′ last′ (λ es past q. first-left es past q (λ here later p z.
+            rw p (rest-join here index₂ row₂ last₂ st₂ later r index′ row′ last′ gap (rest later past z))));
       }
 
       -- nothing is in the gap after it
@@ -307,5 +313,5 @@ module _ {s index₀ row₀ last₀ : List ℕ} {level pg first n : ℕ} {st₀ 
       onward-stopped h index₂ row₂ last₂ got stop w q =
           let o = gap-page s index₁ row last₁ level (e .link) st₁ (Stopped stop) index₂ row₂ last₂ h (link-within h)
           (says-is s index₁ row last₁ (level + 1) (e .link) 0 st₁ index₂ row₂ last₂ w q) in
-          so-far .onward (Stopped stop) index₂ row₂ last₂ (λ es past z. first-left es past z (λ later p _.
+          so-far .onward (Stopped stop) index₂ row₂ last₂ (λ es past z. first-left es past z (λ _ later p _.
           rw (p, ← onward-record .0) (then-stops _ stop o)))

@@ -1,10 +1,10 @@
 -- What was read ends where it would end if it were written: it takes as many bytes.
-use Prim.Native.Nat.{ℕ, zero, suc, _+_, _-_, _≤_, _<_}
+use Prim.Native.Nat.{ℕ, zero, suc, _+_, _-_, _≤_}
 use mathlib.Core.Path.{_≡_, refl, sym, ap, subst, _∙_}
 use mathlib.Core.Option.{Option, none, some}
 use mathlib.Core.List.{List, [], _∷_, _++_}
 use native.Mathlib.Omega.{arith}
-use lib.ListN.{length, take, drop, length-append, length-take, length-drop}
+use lib.ListN.{length, take, drop, length-append, length-drop}
 use lib.Seq.{take-at, length-take-le}
 use Rattle.fips180.specs.Bytes.{Bytes}
 use Rattle.page.specs.Reading.{read, Reader, times}
@@ -13,9 +13,10 @@ use Rattle.page.specs.Page.{linkHead, linkBytes, gapBytes, RawEntry, entry as e
 use Rattle.page.specs.Place.{pageStart, linkAt, entryAt, EntryHere, PageHere}
 use Rattle.page.specs.declared.reading.EntryAt.{EntryAt}
 use Rattle.page.specs.declared.reading.PageAt.{PageAt}
+use Rattle.page.proofs.Tools.{bytes-drop}
 use Rattle.page.proofs.Readers.{read-sub, andThen-inv, Spells, step, exactly-spells}
 use Rattle.page.proofs.Numbers.{number-spells}
-use Rattle.page.proofs.Pages.{GoodEntry, entry-spells, page-spells}
+use Rattle.page.proofs.Pages.{entry-spells, page-spells}
 use Rattle.tree.specs.Tree.{page, Gap, Entries}
 use Rattle.tree.specs.Record.{Spelt}
 use Rattle.tree.specs.Table.{SpeltTree, linkOf, rawEntries, rawPage, bytesOfPage, table, tableUnder, readUnder, readFrom, readTree}
@@ -23,19 +24,11 @@ use Rattle.tree.specs.Place.{lengthOfEntry, firstEntry}
 use Rattle.tree.proofs.Tables.{tree-spells}
 use Rattle.index.specs.Chain.{onlyLink}
 
-bytes-drop : (n : ℕ) (s : List ℕ) → Bytes s → Bytes (drop n s)
-bytes-drop zero s b = b
-bytes-drop (suc n) [] b = b
-bytes-drop (suc n) (x ∷ s) b = bytes-drop n s (b .1)
-
 -- ---- between two places of a slice
 module _ {A : Type 0} {p : Reader A} {bytes : A → List ℕ} {Fine : A → Type 0} (spells : Spells p bytes Fine)
     (s : List ℕ) (at to : ℕ) (a : A) (slice : Bytes s) (low : at ≤ length s) (high : to ≤ length s) (reads : p (drop at s) ≡ read a (drop to s)) where
   whole : drop at s ≡ bytes a ++ drop to s
   whole = spells .back (drop at s) (drop to s) a (bytes-drop at s slice) reads .0
-
-  pub read-fine : Fine a
-  read-fine = spells .back (drop at s) (drop to s) a (bytes-drop at s slice) reads .1
 
   pub read-ends : to ≡ at + length (bytes a)
   read-ends = omega (arith, length-append (bytes a) (drop to s), ap length whole, length-drop at s, length-drop to s)
@@ -80,17 +73,6 @@ under-ends s d at to o g b l h q = read-ends (under-spells d o) s at to g b l h 
 
 -- ---- an entry
 module _ (s : List ℕ) (at : ℕ) (e : EntryAt) (slice : Bytes s) (here : EntryHere s at e) where
-  entry-fine : GoodEntry (entryAt s e)
-  entry-fine = read-fine entry-spells s at (e .end) (entryAt s e) slice (omega (arith, here .whole .ahead, here .whole .within)) (here .whole .within) (here .whole .reads)
-
-  pub entry-small : (e .remainder + e .size ≤ length s) × (e .shares < 65536) × (e .size < 65536)
-  entry-small =
-      let n = length-take (e .size) (drop (e .remainder) s) in (
-        omega (arith, here .inside, here .whole .within),
-        entry-fine .shares,
-        omega (arith, entry-fine .remainder, n, length-drop (e .remainder) s, here .inside, here .whole .within),
-      )
-
   pub entry-ends : (g : Gap Spelt (List ℕ)) → linkOf g ≡ linkAt s (e .link)
       → e .end ≡ at + lengthOfEntry (record { shares = e .shares; remainder = take (e .size) (drop (e .remainder) s); val = take 32 (drop (e .value) s) }) g
   entry-ends g q =

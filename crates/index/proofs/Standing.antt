@@ -125,9 +125,9 @@ steps-next {s} {to} {m} {j} {k} {e} (next f n r w) h v =
     subst (λ (i : ℕ). Steps s i (keyAfter j e) to k) (same-end r v) (subst (λ (g : RawEntry). Steps s n (keyAfter j g) to k) (same-read r v) w)
 
 -- and one is read
-pub steps-read : {s : List ℕ} {at to : ℕ} {j k : List ℕ} → Steps s at j to k → at < to → (stop : Stop) → entryReader (drop at s) ≡ stopped stop → ⊥
-steps-read here h stop q = omega arith
-steps-read (next e m r w) h stop q = read-not-stopped r stop q
+pub steps-there : {s : List ℕ} {at to : ℕ} {j k : List ℕ} {C : Type 0} → Steps s at j to k → at < to → ((e : RawEntry) (m : ℕ) → Reads entryReader s at e m → C) → C
+steps-there here h f = absurd (omega arith)
+steps-there (next e m r w) h f = f e m r
 
 -- one more step
 pub steps-end : {s : List ℕ} {at m to : ℕ} {j k : List ℕ} {e : RawEntry} → Steps s at j m k → Reads entryReader s m e to → Steps s at j to (keyAfter k e)

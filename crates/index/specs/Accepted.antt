@@ -15,6 +15,7 @@ pub record AcceptedIndex (s index : List ℕ) (count : ℕ) : Type 0 where
   pub tree : SpeltTree
   pub judged : judge s ≡ accepted tree
   pub size : count ≡ length (records tree)
+  pub room : count ≤ length index
   pub indexed : Indexes index (slots 0 0 tree)
 
 -- The first words of the row are those of its n chains, whose labels are the digests of their pages.

@@ -11,7 +11,7 @@ use page::reading::EntryRead;
 use page::reading::PageAt;
 use page::reading::PageRead;
 use page::reading::Stop;
-use page::reading::read_entry;
+use page::reading::locate_entry;
 use page::reading::read_page;
 ghost use mathlib.Core.Path.{_≡_};
 ghost use mathlib.Core.Bool.{Bool, cond, _&&_};
@@ -275,7 +275,8 @@ fn walk_page(
     }
 }
 
-// The n entries from first on in the page at the place page, and all pages below them.
+// The n entries from first on in the page at the place page, and all pages below them. The page was read whole before, so that its entries
+// need only be located.
 fn walk_entries(
     s: &[u8],
     index: &mut [u64],
@@ -296,7 +297,7 @@ fn walk_entries(
     let mut at = first;
     let mut i = 0;
     while i < n {
-        match read_entry(s, at) {
+        match locate_entry(s, at) {
             EntryRead::Entry(e) => {
                 let link = e.link;
                 let shares = e.shares;

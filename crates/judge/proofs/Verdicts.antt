@@ -21,6 +21,7 @@ use Rattle.tree.specs.Record.{records}
 use Rattle.tree.specs.Table.{SpeltTree, readTree, deepest}
 use Rattle.tree.specs.Judge.{due, isNone, most, prefixesRight, allLawful, rising, rightTree, digestsRight, tests, refused, judge, judgeRead}
 use Rattle.tree.specs.Judge as tree
+use Rattle.tree.proofs.Sizes.{read-length}
 use Rattle.index.specs.Slot.{slots, lawfulSlots, levelSlots, bare, filled}
 use Rattle.index.specs.Chain.{chains, labelsRight, chainsRight}
 use Rattle.index.specs.Walk.{holding, Walks, WalkSays, Indexes}
@@ -34,7 +35,7 @@ use Rattle.row.proofs.Rows.{lawful-slot}
 use Rattle.judge.specs.Layers.{Depths, topOf, LayersSay}
 use Rattle.judge.specs.Digests.{Chained, DigestsSay}
 use Rattle.judge.specs.Prefixes.{prefixesIn, RowPrefixes}
-use Rattle.judge.specs.Verdict.{PrefixesSay, RegisterSays}
+use Rattle.judge.specs.Verdict.{PrefixesSay, RoomFor, RegisterSays}
 use Rattle.judge.specs.declared.Register.the-variants.{Accepted}
 use Rattle.judge.proofs.ChainReads.{front-chained, back-chained}
 use Rattle.judge.proofs.RightTree.{right-tests}
@@ -82,6 +83,17 @@ module _ {s index row : List ℕ} {st : State} (w : Walks s index row st) where
 
   pub row-chained : 2 * st .chains ≤ length row → st .count ≤ most → Chained s row (st .chains)
   row-chained room few = record { chains = chains 0 0 [] (w .root); number = sym (w .chainCount); room = room; words = w .chained few }
+
+-- ---- room for what the walk noted
+module _ {s index row : List ℕ} {st : State} (bytes : Bytes s) (w : Walks s index row st) (few : st .count ≤ most) where
+  long-enough : 53 * st .count ≤ length s
+  long-enough = omega (arith, read-length deepest s (drop (st .next) s) (w .root) bytes (w .reads), w .count, slots-length 0 0 (w .root))
+
+  pub index-room : RoomFor s 1 (length index) → st .count ≤ length index
+  index-room room = omega (arith, room (st .count) few long-enough)
+
+  pub row-room : RoomFor s 2 (length row) → 2 * st .chains ≤ length row
+  row-room room = omega (arith, chains-few w, room (st .count) few long-enough)
 
 pub prefixes-walked : (s row : List ℕ) (st : State) → st .prefixes ≡ true → PrefixesSay s row st true
 unfolding PrefixesSay
@@ -187,18 +199,18 @@ module _ (s index row : List ℕ) (st : State) (bytes : Bytes s) (size : length 
               e₉ : st .filled ≡ true
               e₉ = not-false (st .filled) p
 
-              pub walked-depths : 4096 ≤ length index → Depths s index (st .count)
+              pub walked-depths : RoomFor s 1 (length index) → Depths s index (st .count)
               walked-depths room = record {
                 slots = slots 0 0 (w .root);
                 number = sym (w .count);
-                room = omega arith;
+                room = index-room bytes w few room;
                 short = omega arith;
                 there = λ i h. slot-stands s (drop (st .next) s) (w .root) bytes (w .reads) i (omega (arith, w .count));
                 keys = λ i h. lawful-slot (slots 0 0 (w .root)) all-slots i (omega (arith, w .count));
                 words = w .indexed;
               }
 
-              module _ (room : 4096 ≤ length index) (level : Bool) (index′ : List ℕ) (layers : LayersSay s index (st .count) level index′) where
+              module _ (room : RoomFor s 1 (length index)) (level : Bool) (index′ : List ℕ) (layers : LayersSay s index (st .count) level index′) where
                 layer-test : level ≡ levelSlots (topOf (slots 0 0 (w .root))) (slots 0 0 (w .root))
                 unfolding walked-depths
                 layer-test = layers (walked-depths room) .0
@@ -207,7 +219,7 @@ module _ (s index row : List ℕ) (st : State) (bytes : Bytes s) (size : length 
                 unfolding tests due tree.settled
                 not-level h = judged ∙ rw (e₄, five, e₅, six, e₆, seven, e₇, eight, e₈, nine, e₉, ← layer-test, not-true level h)
 
-                module _ (l : not level ≡ false) (rows : 8192 ≤ length row) (right : Bool) (digests : DigestsSay s row (st .chains) right) where
+                module _ (l : not level ≡ false) (rows : RoomFor s 2 (length row)) (right : Bool) (digests : DigestsSay s row (st .chains) right) where
                   f₉ : level ≡ true
                   f₉ = not-false level l
 
@@ -216,7 +228,7 @@ module _ (s index row : List ℕ) (st : State) (bytes : Bytes s) (size : length 
 
                   chains-tested : right ≡ chainsRight (chains 0 0 [] (w .root))
                   unfolding row-chained
-                  chains-tested = digests (row-chained w (omega (arith, chains-few w)) few)
+                  chains-tested = digests (row-chained w (row-room bytes w few rows) few)
 
                   ten : digestsRight (w .root) ≡ right
                   ten =
@@ -228,18 +240,18 @@ module _ (s index row : List ℕ) (st : State) (bytes : Bytes s) (size : length 
                   unfolding tests due tree.settled
                   wrong-digest h = judged ∙ rw (e₄, five, e₅, six, e₆, seven, e₇, eight, e₈, nine, e₉, ← layer-test, f₉, ten, not-true right h)
 
-                  pub accepted-all : not right ≡ false → RegisterSays s (Accepted (st .count) (st .chains)) index′ row
+                  pub accepted-all : length index′ ≡ length index → not right ≡ false → RegisterSays s (Accepted (st .count) (st .chains)) index′ row
                   unfolding tests due tree.settled walked-depths
-                  accepted-all h =
+                  accepted-all kept h =
                       let all : judge s ≡ tree.accepted (w .root) =
                       judged ∙ rw (e₄, five, e₅, six, e₆, seven, e₇, eight, e₈, nine, e₉, ← layer-test, f₉, ten, not-false right h) in (
-                        record { tree = w .root; judged = all; size = sym five; indexed = layers (walked-depths room) .1 f₉ },
+                        record { tree = w .root; judged = all; size = sym five; room = omega (arith, index-room bytes w few room); indexed = layers (walked-depths room) .1 f₉ },
                         record {
                           tree = w .root;
                           judged = all;
                           size = w .chainCount;
                           few = omega (arith, chains-few w);
-                          room = omega (arith, chains-few w);
+                          room = row-room bytes w few rows;
                           stands = w .chained few;
                           right = sym chains-tested ∙ not-false right h;
                         },

@@ -19,7 +19,7 @@ ghost use Prim.Native.Nat.{_*_, _≤_};
 ghost use lib.ListN.{length};
 ghost use Rattle.sha256.specs.Digest.{longest};
 ghost use Rattle.index.specs.Walk.{Walks};
-ghost use Rattle.judge.specs.Verdict.{PrefixesSay, RegisterSays};
+ghost use Rattle.judge.specs.Verdict.{PrefixesSay, RoomFor, RegisterSays};
 
 // What a byte string is judged to be: a register of so many records and chains, or refused.
 pub enum Register {
@@ -45,7 +45,7 @@ fn prefixes_right(s: &[u8], row: &[u64], st: State) -> bool
 
 // Numbers 4 to 10, in their order, of a register that was walked through.
 fn settle(s: &[u8], index: &mut [u64], row: &[u64], st: State) -> Register
-    requires { ⌜ (length (now s) ≤ longest) × (4096 ≤ length (now index)) × (8192 ≤ length (now row)) × Walks (now s) (now index) (now row) st ⌝ }
+    requires { ⌜ (length (now s) ≤ longest) × RoomFor (now s) 1 (length (now index)) × RoomFor (now s) 2 (length (now row)) × Walks (now s) (now index) (now row) st ⌝ }
     ensures { λ r. ⌜ RegisterSays (now (s .entry)) r (now (index .exit)) (now (row .entry)) ⌝ }
 {
     if st.next < s.len() {
@@ -79,7 +79,7 @@ fn settle(s: &[u8], index: &mut [u64], row: &[u64], st: State) -> Register
 
 // Numbers 1 to 10 of a byte string, and the rows of a register that is accepted.
 pub fn judge(s: &[u8], index: &mut [u64], row: &mut [u64]) -> Register
-    requires { ⌜ (4096 ≤ length (now index)) × (8192 ≤ length (now row)) ⌝ }
+    requires { ⌜ RoomFor (now s) 1 (length (now index)) × RoomFor (now s) 2 (length (now row)) ⌝ }
     ensures { λ r. ⌜ RegisterSays (now (s .entry)) r (now (index .exit)) (now (row .exit)) ⌝ }
 {
     if sha256::LONGEST < s.len() {

@@ -1,5 +1,5 @@
--- The key rule as the code tries it: the table of ordinary bytes, the pass over a key, the names . and .., and what these tell of a key.
-use Prim.Native.Nat.{ℕ, zero, suc, _+_, _-_, _≤_, _<_, zero-le, suc-le-suc}
+-- The key rule as the code tries it: the words of ordinary bytes, the pass over a key, the names . and .., and what these tell of a key.
+use Prim.Native.Nat.{ℕ, zero, suc, _+_, _-_, _%_, _≤_, _<_, zero-le, suc-le-suc}
 use mathlib.Core.Path.{_≡_, refl, sym, ap, _∙_}
 use mathlib.Core.Bool.{Bool, true, false, cond, _&&_, Bool·beq, and-true, and-false, false≢true}
 use mathlib.Core.List.{List, [], _∷_}
@@ -16,11 +16,11 @@ use Rattle.answer.specs.declared.Refusal.the-variants.{UnlawfulKey}
 use Rattle.key.specs.Key.{slashByte, dot, ordinary, collection, name, allOrdinary, isDotName, lawful, slashAnswer}
 use Rattle.key.specs.Inner.{hasBit, onlySlash, slashOrEnd}
 
--- ---- the table of ordinary bytes
--- whether f is ordinary at each of the n numbers from 0 on: a test that antt computes
-unfoldable pub agrees : (ℕ → Bool) → ℕ → Bool
-agrees f zero = true
-agrees f (suc n) = Bool·beq (f n) (ordinary n) && agrees f n
+-- ---- the words of ordinary bytes
+-- whether the bits of a word tell of the n numbers from low on which are ordinary: a test that antt computes
+unfoldable pub agrees : ℕ → ℕ → ℕ → Bool
+agrees word low zero = true
+agrees word low (suc n) = Bool·beq (hasBit word ((low + n) % 64)) (ordinary (low + n)) && agrees word low n
 
 equal-and-rest : (a b rest : Bool) → Bool·beq a b && rest ≡ true → (a ≡ b) × (rest ≡ true)
 equal-and-rest true true rest h = (refl, h)
@@ -28,17 +28,14 @@ equal-and-rest true false rest h = absurd (false≢true h)
 equal-and-rest false true rest h = absurd (false≢true h)
 equal-and-rest false false rest h = (refl, h)
 
-agreed : (f : ℕ → Bool) (n : ℕ) → agrees f n ≡ true → (b : ℕ) → b < n → f b ≡ ordinary b
+pub word-told : (word low n b : ℕ) → agrees word low n ≡ true → low ≤ b → b < low + n → hasBit word (b % 64) ≡ ordinary b
 unfolding agrees
-agreed f zero h b below = absurd (omega arith)
-agreed f (suc n) h b below =
-    let w = equal-and-rest (f n) (ordinary n) (agrees f n) h in
-    cases (eqb b n)
-    (λ e. rw (eqb-true b n e) (w .0))
-    (λ e. agreed f n (w .1) b (omega (arith, eqb-false b n e)))
-
-pub table-told : (r : Bool) (table : List ℕ) (b : ℕ) → r ≡ hasBit table b → b < 256 → agrees (hasBit table) 256 ≡ true → r ≡ ordinary b
-table-told r table b e small h = e ∙ agreed (hasBit table) 256 h b small
+word-told word low zero b h above below = absurd (omega arith)
+word-told word low (suc n) b h above below =
+    let w = equal-and-rest (hasBit word ((low + n) % 64)) (ordinary (low + n)) (agrees word low n) h in
+    cases (eqb b (low + n))
+    (λ e. rw (eqb-true b (low + n) e) (w .0))
+    (λ e. word-told word low n b (w .1) above (omega (arith, eqb-false b (low + n) e)))
 
 -- ---- the pass over a key of n bytes
 -- what it answers, from byte i on, of the bytes that are left: at is where the slash stood, or n where there was none so far

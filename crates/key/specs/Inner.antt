@@ -3,12 +3,12 @@ use Prim.Native.Nat.{ℕ, _/_, _%_, _^_}
 use mathlib.Core.Bool.{Bool, cond, _&&_}
 use mathlib.Core.List.{List}
 use lib.Dec.{eqb}
-use lib.ListN.{length, getD}
+use lib.ListN.{length}
 use Rattle.key.specs.Key.{collection, name, allOrdinary}
 
--- Whether bit b % 64 of word b / 64 of a table is 1.
-unfoldable pub hasBit : List ℕ → ℕ → Bool
-hasBit table b = eqb (getD table (b / 64) 0 / 2 ^ (b % 64) % 2) 1
+-- Whether bit i of a word is 1.
+unfoldable pub hasBit : ℕ → ℕ → Bool
+hasBit word i = eqb (word / 2 ^ i % 2) 1
 
 -- Whether all bytes but the first slash are ordinary.
 unfoldable pub onlySlash : List ℕ → Bool

@@ -13,7 +13,7 @@ use Rattle.key.specs.declared.order.Order.the-variants.{Less, Equal, Greater}
 use Rattle.key.proofs.Laws.{less-irreflexive, order-less, order-equal, order-greater}
 use Rattle.page.proofs.Tools.{All, all-append}
 use Rattle.tree.specs.Record.{Record}
-use Rattle.tree.specs.Judge.{equal, most}
+use Rattle.tree.specs.Judge.{equal}
 use Rattle.tree.proofs.Laws.{equal-refl, equal-cases}
 use Rattle.row.specs.Row.{sourceOf, recordOf, Stands, Row, recordsOf}
 use Rattle.row.specs.Memory.{Recalls}
@@ -109,7 +109,7 @@ pub record SiftedSoFar (s u first : List ℕ) (n : ℕ) (second : List ℕ) (m :
   pub within : a .at ≤ n
   pub beside : b .at ≤ m
   pub few : k ≤ b .at
-  pub room : most ≤ length row
+  pub room : m ≤ length row
   pub stands : All (Stands s u) (take k row)
   pub sifted : recordsOf s u row k ++ sift (drop (a .at) (recordsOf s u first n)) (drop (b .at) (recordsOf s u second m)) ≡ siftedOf s u first n second m
 
@@ -118,7 +118,7 @@ module _ (s u first : List ℕ) (n : ℕ) (second : List ℕ) (m : ℕ) where
   later i j = sift (drop i (recordsOf s u first n)) (drop j (recordsOf s u second m))
 
   pub begins : (row keys notes others marks : List ℕ) (a b : Cursor) → Row s u first n → Row s u second m
-      → Held s u first n keys notes a → Held s u second m others marks b → length notes ≡ 64 → length marks ≡ 64 → a .at ≡ 0 → b .at ≡ 0 → most ≤ length row
+      → Held s u first n keys notes a → Held s u second m others marks b → length notes ≡ 64 → length marks ≡ 64 → a .at ≡ 0 → b .at ≡ 0 → m ≤ length row
       → SiftedSoFar s u first n second m row keys notes others marks a b 0
   unfolding recordsOf siftedOf
   begins row keys notes others marks a b v w h i e f p q r = record {
@@ -142,15 +142,18 @@ module _ (s u first : List ℕ) (n : ℕ) (second : List ℕ) (m : ℕ) where
     ends-second h = record {
       whole = record {
         few = omega (arith, f .few, f .beside, f .other .few);
-        room = omega (arith, f .few, f .beside, f .other .few, f .room);
+        room = omega (arith, f .few, f .beside, f .room);
         first = f .whole .first;
         second = f .whole .second;
-        stands = first-at (Stands s u) row k (omega (arith, f .few, f .beside, f .other .few, f .room)) (f .stands);
+        stands = first-at (Stands s u) row k (omega (arith, f .few, f .beside, f .room)) (f .stands);
       };
       records =
           let none : drop (b .at) (recordsOf s u second m) ≡ [] = records-past s u second m (b .at) (f .other .room) h in
           sym (append-nil (recordsOf s u row k)) ∙ ap (λ (l : List Record). recordsOf s u row k ++ l) (sym (rw none (sift-end (drop (a .at) (recordsOf s u first n))))) ∙ f .sifted;
     }
+
+    pub rest-fits : k + length (take (m - b .at) (drop (b .at) second)) ≤ length row
+    rest-fits = omega (arith, rest-length s u second m (b .at) (f .other) (f .beside), f .few, f .beside, f .room)
 
     -- the first row is used up: what is left of the second goes behind the row
     module _ (h : n ≤ a .at) (r : Chosen) (row′ : List ℕ) (same-length : length row′ ≡ length row) (says : AppendSays row k (take (m - b .at) (drop (b .at) second)) r row′) where
@@ -159,6 +162,9 @@ module _ (s u first : List ℕ) (n : ℕ) (second : List ℕ) (m : ℕ) where
           let none : drop (a .at) (recordsOf s u first n) ≡ [] = records-past s u first n (a .at) (f .whole .room) h in
           rw none (sift-none (drop (b .at) (recordsOf s u second m))) ∙ sym (rest-records s u second m (b .at) (f .other) (f .beside))
 
+      fits : (count : ℕ) → count ≡ k + length (take (m - b .at) (drop (b .at) second)) → count ≤ length row′
+      fits count e = omega (arith, rest-fits)
+
       pub ends-first : (count : ℕ) → r ≡ Count count → RowOf s u row′ count (siftedOf s u first n second m)
       unfolding recordsOf
       ends-first count e =
@@ -166,10 +172,10 @@ module _ (s u first : List ℕ) (n : ℕ) (second : List ℕ) (m : ℕ) where
           record {
             whole = record {
               few = v .1;
-              room = omega (arith, v .1, f .room);
+              room = fits count (v .0);
               first = f .whole .first;
               second = f .whole .second;
-              stands = first-at (Stands s u) row′ count (omega (arith, v .1, f .room))
+              stands = first-at (Stands s u) row′ count (fits count (v .0))
                   (rw (v .2) (all-append (Stands s u) (take k row) (rest s u second m (b .at) (f .other) (f .beside)) (f .stands) (rest-stands s u second m (b .at) (f .other) (f .beside))));
             };
             records = rw (v .2) (map-append (recordOf s u) (take k row) (rest s u second m (b .at) (f .other) (f .beside)) ∙ rw (← all-left) (f .sifted));
@@ -206,7 +212,7 @@ module _ (s u first : List ℕ) (n : ℕ) (second : List ℕ) (m : ℕ) where
       values-within = (recalledFirst .within, recalledSecond .within)
 
       pub word-fits : k < length row
-      word-fits = omega (arith, f .few, f .other .few, f .room)
+      word-fits = omega (arith, f .few, f .room)
 
       first-cons : drop (a .at) (recordsOf s u first n) ≡ recordOf s u x ∷ drop (a .at + 1) (recordsOf s u first n)
       first-cons = records-cons s u first n (a .at) (f .whole .room) more

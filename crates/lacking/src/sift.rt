@@ -9,7 +9,7 @@ use row::bytes::value_of;
 ghost use mathlib.Core.Path.{_≡_};
 ghost use Prim.Native.Nat.{_+_, _≤_, _<_};
 ghost use lib.ListN.{length};
-ghost use Rattle.tree.specs.Judge.{equal, most};
+ghost use Rattle.tree.specs.Judge.{equal};
 ghost use Rattle.row.specs.Row.{sourceOf, Row};
 ghost use Rattle.choice.specs.Choice.{valueAt, RowOf};
 ghost use Rattle.lacking.specs.Sifting.{siftedOf, Kept};
@@ -51,7 +51,7 @@ pub fn leave_held(
     m: usize,
     row: &mut [u64],
 ) -> usize
-    requires { ⌜ Row (now s) (now u) (now first) n × Row (now s) (now u) (now second) m × (most ≤ length (now row)) ⌝ }
+    requires { ⌜ Row (now s) (now u) (now first) n × Row (now s) (now u) (now second) m × (m ≤ length (now row)) ⌝ }
     ensures { λ r. ⌜ RowOf (now (s .entry)) (now (u .entry)) (now (row .exit)) r (siftedOf (now (s .entry)) (now (u .entry)) (now (first .entry)) n (now (second .entry)) m) ⌝ }
 {
     let mut keys = [0u8; 16384];

@@ -50,10 +50,10 @@ wrote-refused s h j n i f = adds-first f (refused-text s h j ∙ ap (firstLine r
 
 -- ---- accepted
 -- its index is a row
-pub index-row : {s index : List ℕ} {count : ℕ} → Bytes s → AcceptedIndex s index count → count ≤ length index → Row s s index count
-index-row {s} {index} {count} b a room =
-    let short : length s < 2 ^ 24 = accepted-short s index (a .tree) count b (a .judged) (a .indexed) (a .size) room in
-    accepted-row s index (a .tree) count b (a .judged) (a .indexed) (a .size) room s short
+pub index-row : {s index : List ℕ} {count : ℕ} → Bytes s → AcceptedIndex s index count → Row s s index count
+index-row {s} {index} {count} b a =
+    let short : length s < 2 ^ 24 = accepted-short s index (a .tree) count b (a .judged) (a .indexed) (a .size) (a .room) in
+    accepted-row s index (a .tree) count b (a .judged) (a .indexed) (a .size) (a .room) s short
 
 module _ {s index : List ℕ} {count : ℕ} (short : length s ≤ 65536) (a : AcceptedIndex s index count) {o m : List ℕ} {q : Written}
     (f : Adds o 0 (firstLine recordsWord count) m q) where
@@ -62,10 +62,10 @@ module _ {s index : List ℕ} {count : ℕ} (short : length s ≤ 65536) (a : Ac
   accepted-text =
       rw (le-leb (length s) 65536 short, a .judged, sym (a .size)) (then-lines recordsWord (decimal count) (recordLines (records (a .tree))))
 
-  pub wrote-records : {e : List ℕ} {r : Written} {at : ℕ} → Bytes s → count ≤ length index → q ≡ Text at
+  pub wrote-records : {e : List ℕ} {r : Written} {at : ℕ} → Bytes s → q ≡ Text at
       → Adds m at (recordLines (recordsOf s s index count)) e r → Wrote e (listing s) r
-  wrote-records b room h l =
-      let all : recordsOf s s index count ≡ records (a .tree) = accepted-records s index (a .tree) count b (a .judged) (a .indexed) (a .size) room s in
+  wrote-records b h l =
+      let all : recordsOf s s index count ≡ records (a .tree) = accepted-records s index (a .tree) count b (a .judged) (a .indexed) (a .size) (a .room) s in
       adds-first (adds-then f h (adds-same l (ap recordLines (sym all)))) accepted-text
 
   pub wrote-short : q ≡ NoRoom → Wrote m (listing s) NoRoom

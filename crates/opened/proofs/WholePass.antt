@@ -39,26 +39,26 @@ lawful-at [] h i k = absurd (omega arith)
 lawful-at (x ∷ xs) h zero k = and-inv (lawful (keyOf x)) h .0
 lawful-at (x ∷ xs) h (suc i) k = lawful-at xs (and-inv (lawful (keyOf x)) h .1) i (omega arith)
 
-module _ (u index : List ℕ) (count : ℕ) (bytes : Bytes u) (w : AcceptedIndex u index count) (room : count ≤ length index) where
+module _ (u index : List ℕ) (count : ℕ) (bytes : Bytes u) (w : AcceptedIndex u index count) where
   -- they are below 2^60, since layers are small
   word-small : (i : ℕ) → i < count → getD index i 0 < 2 ^ 60
   unfolding HoldsWords
   word-small i h =
       let t : SpeltTree = w .tree in
       let within : i < length (slots 0 0 t) = omega (arith, w .size, slots-length 0 0 t) in
-      let word = w .indexed i within (omega arith) in
+      let word = w .indexed i within (omega (arith, w .room)) in
       let keys : lawfulSlots (slots 0 0 t) ≡ true = slots-lawful 0 0 t ∙ all-lawful (records t) (accepted-table u bytes t (w .judged) .fit .keys) in
       let layer : getD index i 0 / 2 ^ 48 < 256 = omega (arith, word .layer (lawful-at (slots 0 0 t) keys i within), layer-le (keyOf (getD (slots 0 0 t) i blank))) in
       omega (arith, layer)
 
   pub index-room : (row : List ℕ) → count ≤ length row → Room (take count index) row
   index-room row h =
-      let n = length-take-le count index room in
+      let n = length-take-le count index (w .room) in
       record { fits = omega arith; small = λ i k. rw (getD-take count index i 0 (omega arith)) (word-small i (omega arith)) }
 
 -- ---- two registers that are accepted
 module _ (s known : List ℕ) (n : ℕ) (u chains index : List ℕ) (m count : ℕ) (bytes : Bytes s) (others : Bytes u) (w : ChainRow s known n) (x : ChainRow u chains m)
-    (y : AcceptedIndex u index count) (room : count ≤ length index) (marks : List ℕ) (opens : Bool)
+    (y : AcceptedIndex u index count) (marks : List ℕ) (opens : Bool)
     (all : (t v : SpeltTree) → judge s ≡ accepted t → judge u ≡ accepted v → AllMarked t v marks opens) where
   abbrev t : SpeltTree
   t = w .tree
@@ -88,7 +88,7 @@ module _ (s known : List ℕ) (n : ℕ) (u chains index : List ℕ) (m count : �
   words-all =
       let e : accepted (y .tree) ≡ accepted v = sym (y .judged) ∙ x .judged in
       let f : y .tree ≡ v = cc in
-      length-take-le count index room ∙ y .size ∙ ap (λ (z : SpeltTree). length (records z)) f
+      length-take-le count index (y .room) ∙ y .size ∙ ap (λ (z : SpeltTree). length (records z)) f
 
   staging : opens ≡ true → Staging u chains m marks (take count index) (digestsOf t) (pageChains 0 0 [] v)
   staging h = record { chained = row-chains u chains m others x; marked = taken .marks h; ordered = rw words-all (spans .1 .ordered) }
@@ -107,7 +107,7 @@ module _ (s known : List ℕ) (n : ℕ) (u chains index : List ℕ) (m count : �
   open-staged : opens ≡ true → (row : List ℕ) (r : Opening) → KeptStaged (take count index) (digestsOf t) (pageChains 0 0 [] v) row r → OpenedStaged first v index count r row
   open-staged h row r k = record {
     opened = k .opened ∙ rw (spans .1 .opened) (spans .2 ∙ sym (opened-count first v ∙ rw (is-open, h)));
-    fits = omega (arith, k .fits, length-take-le count index room);
+    fits = omega (arith, k .fits, length-take-le count index (y .room));
     staged = k .staged ∙ rw (words-all, is-open, h, spans .1 .flags);
   }
 

@@ -239,7 +239,7 @@ pub fn open_pages(
     count: usize,
     row: &mut [u64],
 ) -> Opening
-    requires { ⌜ ChainRow (now s) (now known) n × ChainRow (now u) (now chains) m × AcceptedIndex (now u) (now index) count × (count ≤ length (now index)) × (count ≤ length (now row)) × (length (now s) ≤ 4194304) × (length (now u) ≤ 4194304) ⌝ }
+    requires { ⌜ ChainRow (now s) (now known) n × ChainRow (now u) (now chains) m × AcceptedIndex (now u) (now index) count × (count ≤ length (now row)) × (length (now s) ≤ 4194304) × (length (now u) ≤ 4194304) ⌝ }
     ensures { λ r. ⌜ ((v : SpeltTree) → judge (now (u .entry)) ≡ accepted v → OpenedStaged (pagesIn (judge (now (s .entry)))) v (now (index .entry)) count r (now (row .exit))) ⌝ }
 {
     let mut marks = [0u8; 4096];

@@ -33,7 +33,7 @@ same-stop EndsEarly Departs e = let z : _≡_ {A = ℕ} 0 1 = cc in absurd (omeg
 same-stop Departs EndsEarly e = let z : _≡_ {A = ℕ} 0 1 = cc in absurd (omega arith)
 same-stop Departs Departs e = refl
 
-not-both : {A : Type 0} (a : A) (t : List ℕ) (stop : Stop) → read a t ≡ stopped stop → ⊥
+pub not-both : {A : Type 0} (a : A) (t : List ℕ) (stop : Stop) → read a t ≡ stopped stop → ⊥
 not-both a t EndsEarly e = let z : _≡_ {A = ℕ} 0 1 = cc in omega arith
 not-both a t Departs e = let z : _≡_ {A = ℕ} 0 1 = cc in omega arith
 

@@ -6,6 +6,7 @@ pub mod AllBytes
 pub mod Places
 pub mod PagePlaces
 pub mod Determined
+pub mod Located
 pub mod Lending
 pub mod Sizes
 pub mod Writers

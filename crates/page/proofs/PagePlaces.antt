@@ -26,14 +26,14 @@ use Rattle.page.proofs.Places.{then-stops, then-assoc, reads-on, bytes-
 
 -- ---- the readers in the steps of the code
 -- fixed bytes and p, and then f
-steps : {A B : Type 0} (bytes : List ℕ) (p : Reader A) (f : A → List ℕ → Read B) (t : List ℕ)
+pub steps : {A B : Type 0} (bytes : List ℕ) (p : Reader A) (f : A → List ℕ → Read B) (t : List ℕ)
     → andThen (exactly bytes t) (λ _ u. andThen (p u) f) ≡ andThen (after bytes p t) f
 steps bytes p f t = then-assoc (exactly bytes t) (λ _ u. p u) f
 
-abbrev withValue : ℕ → List ℕ → Option (List ℕ) → List ℕ → Read RawEntry
+abbrev pub withValue : ℕ → List ℕ → Option (List ℕ) → List ℕ → Read RawEntry
 withValue p r g t = andThen (exactly beforeValue t) (λ _ u. andThen (link u) (λ v x. read (record { shares = p; remainder = r; after = g; val = v }) x))
 
-end-steps : (p : ℕ) (r t : List ℕ) → entryEnd p r t ≡ andThen (after beforeGap gap t) (withValue p r)
+pub end-steps : (p : ℕ) (r t : List ℕ) → entryEnd p r t ≡ andThen (after beforeGap gap t) (withValue p r)
 unfolding entryEnd
 end-steps p r t = steps beforeGap gap (withValue p r) t
 
@@ -52,7 +52,7 @@ unfolding page
 page-steps t = steps beforeEntries (number array) (λ n u. andThen (times n entry u) withLeft) t
 
 -- what was read, and then f
-reads-then : {A B : Type 0} {p : Reader A} {s : List ℕ} {at : ℕ} {a : A} {to : ℕ} (f : A → List ℕ → Read B) → Reads p s at a to → andThen (p (drop at s)) f ≡ f a (drop to s)
+pub reads-then : {A B : Type 0} {p : Reader A} {s : List ℕ} {at : ℕ} {a : A} {to : ℕ} (f : A → List ℕ → Read B) → Reads p s at a to → andThen (p (drop at s)) f ≡ f a (drop to s)
 reads-then f w = rw (w .reads)
 
 -- ---- the end of an entry
@@ -98,7 +98,7 @@ module _ (s : List ℕ) (at : ℕ) (m : NumberRead) (w : NumberIs entryStart s a
     start-here : NumberIs entryStart s at (Number size remainder)
     start-here = subst (NumberIs entryStart s at) e w
 
-    remainder-next : entry (drop at s) ≡ andThen (anyBytes size (drop remainder s)) withShares
+    pub remainder-next : entry (drop at s) ≡ andThen (anyBytes size (drop remainder s)) withShares
     remainder-next = entry-steps (drop at s) ∙ reads-then _ start-here
 
     pub remainder-ends : left < size → entry (drop at s) ≡ endsEarly
@@ -115,7 +115,7 @@ module _ (s : List ℕ) (at : ℕ) (m : NumberRead) (w : NumberIs entryStart s a
         shares-here : NumberIs (after beforeShares (number plainNumber)) s (remainder + size) (Number shares to)
         shares-here = subst (NumberIs (after beforeShares (number plainNumber)) s (remainder + size)) f v
 
-        end-next : entry (drop at s) ≡ entryEnd shares (take size (drop remainder s)) (drop to s)
+        pub end-next : entry (drop at s) ≡ entryEnd shares (take size (drop remainder s)) (drop to s)
         end-next = shares-next ∙ reads-then _ shares-here
 
         pub entry-there : (r : EntryRead) → EntryEndIs s to shares remainder size r → EntryIs s at r

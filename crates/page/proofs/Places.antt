@@ -174,7 +174,7 @@ module _ (bytes s : List ℕ) (at : ℕ) (m : PlaceRead) (w : ExactIs bytes s at
     to-later : at ≤ to
     to-later = omega (arith, exact-here .1)
 
-    after-is : {A : Type 0} (p : Reader A) → after bytes p (drop at s) ≡ p (drop to s)
+    pub after-is : {A : Type 0} (p : Reader A) → after bytes p (drop at s) ≡ p (drop to s)
     after-is p = rw (exact-here .0)
 
     pub number-after : (p : Reader ℕ) (r : NumberRead) → NumberIs p s to r → NumberIs (after bytes p) s at r
@@ -233,22 +233,23 @@ module _ (s : List ℕ) (at : ℕ) (h : at < length s) where
     last = λ z. absurd (omega arith);
   }
 
-  module _ (f : getD s at 0 ≡ null → ⊥) (m : PlaceRead) (w : LinkIs link 9 s at m) where
-    link-follows : gap (drop at s) ≡ andThen (link (drop at s)) (λ d t. read (some d) t)
+  module _ (f : getD s at 0 ≡ null → ⊥) where
+    pub link-follows : gap (drop at s) ≡ andThen (link (drop at s)) (λ d t. read (some d) t)
     unfolding gap
     link-follows = rw (drop-cons s at 0 h, ne-eqb (getD s at 0) null f)
 
-    pub gap-stops : (stop : Stop) → m ≡ PlaceStop stop → gap (drop at s) ≡ stopped stop
-    gap-stops stop e = link-follows ∙ then-stops (λ d t. read (some d) t) stop (subst (LinkIs link 9 s at) e w)
+    module _ (m : PlaceRead) (w : LinkIs link 9 s at m) where
+      pub gap-stops : (stop : Stop) → m ≡ PlaceStop stop → gap (drop at s) ≡ stopped stop
+      gap-stops stop e = link-follows ∙ then-stops (λ d t. read (some d) t) stop (subst (LinkIs link 9 s at) e w)
 
-    pub gap-there : (digest : ℕ) → m ≡ Place digest → GapIs gap s at (Gap digest (digest + 32))
-    gap-there digest e =
-        let v : LinkIs link 9 s at (Place digest) = subst (LinkIs link 9 s at) e w in
-        record {
-          whole = record {
-            reads = link-follows ∙ rw (v .whole .reads) (ap (λ (g : Option (List ℕ)). read g (drop (digest + 32) s)) (some-link s digest (omega (arith, v .head))));
-            ahead = v .whole .ahead;
-            within = v .whole .within;
-          };
-          last = λ _. refl;
-        }
+      pub gap-there : (digest : ℕ) → m ≡ Place digest → GapIs gap s at (Gap digest (digest + 32))
+      gap-there digest e =
+          let v : LinkIs link 9 s at (Place digest) = subst (LinkIs link 9 s at) e w in
+          record {
+            whole = record {
+              reads = link-follows ∙ rw (v .whole .reads) (ap (λ (g : Option (List ℕ)). read g (drop (digest + 32) s)) (some-link s digest (omega (arith, v .head))));
+              ahead = v .whole .ahead;
+              within = v .whole .within;
+            };
+            last = λ _. refl;
+          }

@@ -66,7 +66,7 @@ pub step {κ} : {A B : Type 0} {C : Type κ} {p : Reader A} {bytes : A → List 
 step {p} {bytes} sp s bs k h =
     andThen-inv (p s) (λ a t e q. let r = sp .back s t a bs e in k a t (r .0) (r .1) (bytes-right (bytes a) t (subst Bytes (r .0) bs)) q) h
 
-exactly-inv : (bytes s rest : List ℕ) (u : Unit {0}) → exactly bytes s ≡ read u rest → s ≡ bytes ++ rest
+pub exactly-inv : (bytes s rest : List ℕ) (u : Unit {0}) → exactly bytes s ≡ read u rest → s ≡ bytes ++ rest
 unfolding exactly
 exactly-inv [] s rest u h = read-sub (λ _ r. s ≡ r) h refl
 exactly-inv (c ∷ cs) [] rest u h = absurd (endsEarly≢read h)

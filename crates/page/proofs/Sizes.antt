@@ -79,6 +79,10 @@ least-number : (n : ℕ) → 1 ≤ numberLength n
 unfolding numberLength numberBytes
 least-number n = cases (ltb n 24) (λ e. rw e (omega arith)) (λ e. cases (ltb n 256) (λ f. rw (e, f) (omega arith)) (λ f. rw (e, f) (omega arith)))
 
+pub most-number : (n : ℕ) → numberLength n ≤ 3
+unfolding numberLength numberBytes
+most-number n = cases (ltb n 24) (λ e. rw e (omega arith)) (λ e. cases (ltb n 256) (λ f. rw (e, f) (omega arith)) (λ f. rw (e, f) (omega arith)))
+
 least-gap : (g : Option (List ℕ)) → 1 ≤ length (gapBytes g)
 unfolding gapBytes linkBytes
 least-gap none = omega arith

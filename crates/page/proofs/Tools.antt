@@ -4,7 +4,7 @@ use mathlib.Core.Path.{_≡_, refl}
 use mathlib.Core.Bool.{Bool, true, false, cond, _&&_, false≢true}
 use mathlib.Core.List.{List, [], _∷_, _++_}
 use native.Mathlib.Omega.{arith}
-use lib.ListN.{length, getD}
+use lib.ListN.{length, getD, take, drop, take-append-drop}
 use Rattle.fips180.specs.Bytes.{Bytes}
 use Rattle.page.specs.Reading.{concat}
 
@@ -53,6 +53,9 @@ bytes-concat bytes (a ∷ l) p = bytes-append (bytes a) (concat bytes l) (p .0) 
 pub bytes-right : (s t : List ℕ) → Bytes (s ++ t) → Bytes t
 bytes-right [] t p = p
 bytes-right (b ∷ s) t p = bytes-right s t (p .1)
+
+pub bytes-drop : (n : ℕ) (s : List ℕ) → Bytes s → Bytes (drop n s)
+bytes-drop n s b = bytes-right (take n s) (drop n s) (rw (take-append-drop n s) b)
 
 -- from what a slice tells of each of its elements
 pub bytes-of : (s : List ℕ) → ((i : ℕ) → i < length s → getD s i 0 < 256) → Bytes s

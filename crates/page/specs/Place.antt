@@ -113,6 +113,32 @@ abbrev pub EntryIs : List ℕ → ℕ → EntryRead → Type 0
 EntryIs s at (Entry e) = EntryHere s at e
 EntryIs s at (EntryStop stop) = entry (drop at s) ≡ stopped stop
 
+-- The end of an entry whose key was located, by places that are in the slice in any case. Where such an end is read there, they are its
+-- parts.
+pub record LocatedEnd (s : List ℕ) (at : ℕ) (e : EntryAt) : Type 0 where
+  pub ahead : at < e .end
+  pub within : e .end ≤ length s
+  pub ends : Ends e
+  pub here : (a : RawEntry) (t : List ℕ) → entryEnd (e .shares) (take (e .size) (drop (e .remainder) s)) (drop at s) ≡ read a t → EntryEndHere s at e
+
+abbrev pub LocatedEndIs : List ℕ → ℕ → ℕ → ℕ → ℕ → EntryRead → Type 0
+LocatedEndIs s at shares remainder size (Entry e) = (e .shares ≡ shares) × (e .remainder ≡ remainder) × (e .size ≡ size) × LocatedEnd s at e
+LocatedEndIs s at shares remainder size (EntryStop stop) = (a : RawEntry) (t : List ℕ) → entryEnd shares (take size (drop remainder s)) (drop at s) ≡ read a t → ⊥
+
+-- The parts of an entry, by places that are in the slice in any case. Where an entry is read there, they are its parts.
+pub record Located (s : List ℕ) (at : ℕ) (e : EntryAt) : Type 0 where
+  pub ahead : at < e .end
+  pub within : e .end ≤ length s
+  pub inside : e .remainder + e .size < e .end
+  pub shares : e .shares < 65536
+  pub size : e .size < 65536
+  pub ends : Ends e
+  pub here : (a : RawEntry) (to : ℕ) → Reads entry s at a to → EntryHere s at e
+
+abbrev pub LocatedIs : List ℕ → ℕ → EntryRead → Type 0
+LocatedIs s at (Entry e) = Located s at e
+LocatedIs s at (EntryStop stop) = (a : RawEntry) (to : ℕ) → Reads entry s at a to → ⊥
+
 -- The start of a page: the number of its entries, which follow.
 abbrev pub pageStart : Reader ℕ
 pageStart = after (0xA2 ∷ 0x61 ∷ 0x65 ∷ []) (number array)

@@ -16,7 +16,17 @@ ghost use Prim.Native.Nat.{_+_, _-_, _≤_, _<_};
 ghost use lib.ListN.{length};
 ghost use Rattle.page.specs.Number.{oneByte, twoBytes, number};
 ghost use Rattle.page.specs.Page.{link, gap};
-ghost use Rattle.page.specs.Place.{after, ExactIs, NumberIs, LinkIs, GapIs, EntryEndIs, EntryIs, pageStart, EntriesIs, PageIs};
+ghost use Rattle.page.specs.Place.{after, ExactIs, NumberIs, LinkIs, GapIs, EntryEndIs, EntryIs, LocatedEndIs, LocatedIs, pageStart, EntriesIs, PageIs};
+
+// How far behind an entry's numbers its parts stand. The digest of a link in the gap: after the two bytes before a gap, and the nine that
+// begin a link.
+const TO_DIGEST: usize = 11;
+
+// The value after a link: after the link's 32 digest bytes, the two before a value, and the nine.
+const TO_VALUE_AFTER_LINK: usize = 54;
+
+// The value after an empty gap: after the two bytes, the null, the two, and the nine.
+const TO_VALUE_AFTER_NULL: usize = 14;
 
 // Why reading stopped: the input ends while a byte is due, or a byte departs from the form.
 pub enum Stop {
@@ -254,6 +264,66 @@ pub fn read_entry(s: &[u8], at: usize) -> EntryRead
             }
             match read_number_after(s, remainder + size, &BEFORE_SHARES, PLAIN_NUMBER) {
                 NumberRead::Number(shares, to) => { read_entry_end(s, to, shares, remainder, size) }
+                NumberRead::NumberStop(stop) => EntryRead::EntryStop(stop),
+            }
+        }
+        NumberRead::NumberStop(stop) => EntryRead::EntryStop(stop),
+    }
+}
+
+// The end of an entry that was read before, from the place after its numbers on.
+fn locate_entry_end(s: &[u8], at: usize, shares: usize, remainder: usize, size: usize) -> EntryRead
+    requires { ⌜ at ≤ length (now s) ⌝ }
+    ensures { λ r. ⌜ LocatedEndIs (now (s .entry)) at shares remainder size r ⌝ }
+{
+    let left = s.len() - at;
+    if left < 3 {
+        return EntryRead::EntryStop(Stop::EndsEarly);
+    }
+    if s[at + 2] == NULL {
+        if left < TO_VALUE_AFTER_NULL + 32 {
+            return EntryRead::EntryStop(Stop::EndsEarly);
+        }
+        let value = at + TO_VALUE_AFTER_NULL;
+        return EntryRead::Entry(EntryAt {
+            shares,
+            remainder,
+            size,
+            link: 0,
+            value,
+            end: value + 32,
+        });
+    }
+    if left < TO_VALUE_AFTER_LINK + 32 {
+        return EntryRead::EntryStop(Stop::EndsEarly);
+    }
+    let value = at + TO_VALUE_AFTER_LINK;
+    EntryRead::Entry(EntryAt {
+        shares,
+        remainder,
+        size,
+        link: at + TO_DIGEST,
+        value,
+        end: value + 32,
+    })
+}
+
+// Where the parts of an entry stand that was read before: what is the same in all entries is passed over and not compared again.
+pub fn locate_entry(s: &[u8], at: usize) -> EntryRead
+    ensures { λ r. ⌜ LocatedIs (now (s .entry)) at r ⌝ }
+{
+    if rest(s.len(), at) < 3 {
+        return EntryRead::EntryStop(Stop::EndsEarly);
+    }
+    match read_number(s, at + 3, BYTE_STRING) {
+        NumberRead::Number(size, remainder) => {
+            if s.len() - remainder < size + 2 {
+                return EntryRead::EntryStop(Stop::EndsEarly);
+            }
+            match read_number(s, remainder + size + 2, PLAIN_NUMBER) {
+                NumberRead::Number(shares, to) => {
+                    locate_entry_end(s, to, shares, remainder, size)
+                }
                 NumberRead::NumberStop(stop) => EntryRead::EntryStop(stop),
             }
         }

@@ -1,5 +1,5 @@
--- The first bytes of an input decide its listing, and every listing fits. A line has at most 322 bytes. An entry has at least 50, those before
--- its fields and its value, so that 65,536 bytes have at most 1,310 records.
+-- The first bytes of an input decide its listing, and every listing fits. A line has at most 322 bytes. An entry has at least 53, so that
+-- 65,536 bytes have at most 1,236 records.
 use Prim.Native.Nat.{ℕ, zero, suc, _+_, _*_, _/_, _%_, _≤_, _<_}
 use mathlib.Core.Path.{_≡_, refl, sym, ap, _∙_}
 use mathlib.Core.List.{List, [], _∷_, _++_}
@@ -14,15 +14,13 @@ use Rattle.answer.specs.declared.Refusal.{Refusal}
 use Rattle.answer.specs.declared.Refusal.the-variants.{TooLong}
 use Rattle.fips180.specs.Bytes.{ByteString}
 use Rattle.key.proofs.Laws.{lawful-length}
-use Rattle.page.specs.Reading.{concat}
-use Rattle.page.specs.Page.{isValue, linkBytes, RawEntry, entryBytes, RawPage, pageBytes}
+use Rattle.page.specs.Page.{isValue}
 use Rattle.page.proofs.Tools.{All}
-use Rattle.page.proofs.Pages.{GoodEntry}
-use Rattle.tree.specs.Tree.{page, Gap, empty, under, Entries, end, entry, items, itemsUnder, itemsFrom}
-use Rattle.tree.specs.Record.{Record, Spelt, recordOf, keyed, keyedUnder, keyedFrom, records}
-use Rattle.tree.specs.Table.{SpeltTree, linkOf, rawEntries, rawPage, bytesOfPage, table, tableUnder, tableFrom, tableOf, deepest}
+use Rattle.tree.specs.Record.{Record, records}
+use Rattle.tree.specs.Table.{SpeltTree, table, tableOf, deepest}
 use Rattle.tree.specs.Judge.{Verdict, refused, accepted, judge}
-use Rattle.tree.proofs.Laws.{LawfulKey, RightValue, AllUnder, AllFrom, Good, accepted-table}
+use Rattle.tree.proofs.Sizes.{table-length}
+use Rattle.tree.proofs.Laws.{LawfulKey, RightValue, accepted-table}
 use Rattle.promises.specs.Listing.{digits, decimal, hexadecimal, space, lineFeed, recordLines, listingOf, refusalLine, listingVerdict, longestInput, listing, FirstBytesDecide, longestListing, ListingFits}
 
 -- ---- long inputs
@@ -70,51 +68,6 @@ lines-length (r ∷ rs) h k =
       length-append (hexadecimal (r .val)) (lineFeed ∷ recordLines rs),
       lines-length rs (h .1) (k .1),
     )
-
--- ---- entries and pages
-entry-length : (e : RawEntry) → length (e .val) ≡ 32 → 50 ≤ length (entryBytes e)
-unfolding entryBytes linkBytes
-entry-length e h = simp length-append (omega arith)
-
-entries-within : (p : RawPage) → length (concat entryBytes (p .entries)) ≤ length (pageBytes p)
-unfolding pageBytes
-entries-within p = simp length-append (omega arith)
-
-mutual
-  unfolding items keyed rawPage rawEntries bytesOfPage table
-
-  table-length : (t : SpeltTree) (d : ℕ) → Good d t → 50 * length (records t) ≤ length (table t)
-  table-length (page g es) zero h = absurd h
-  table-length (page g es) (suc d) h =
-      omega (
-        arith,
-        length-append (itemsUnder (keyedUnder g)) (itemsFrom (keyedFrom [] es)),
-        length-append (bytesOfPage (page g es)) (tableUnder g ++ tableFrom es),
-        length-append (tableUnder g) (tableFrom es),
-        entries-within (rawPage (page g es)),
-        under-length g d (h .1),
-        from-length es d [] (h .0 .entries) (h .2),
-      )
-
-  under-length : (g : Gap Spelt (List ℕ)) (d : ℕ) → AllUnder (Good d) g → 50 * length (itemsUnder (keyedUnder g)) ≤ length (tableUnder g)
-  under-length empty d h = omega arith
-  under-length (under digest p) d h = table-length p d h
-
-  from-length : (es : Entries Spelt (List ℕ)) (d : ℕ) (before : List ℕ) → All GoodEntry (rawEntries es) → AllFrom (Good d) es
-      → 50 * length (itemsFrom (keyedFrom before es)) ≤ length (concat entryBytes (rawEntries es)) + length (tableFrom es)
-  from-length end d before h k = omega arith
-  from-length (entry e g es) d before h k =
-      let raw : RawEntry = record { shares = e .shares; remainder = e .remainder; after = linkOf g; val = e .val } in
-      let key : List ℕ = recordOf before e .key in
-      omega (
-        arith,
-        length-append (itemsUnder (keyedUnder g)) (itemsFrom (keyedFrom key es)),
-        length-append (entryBytes raw) (concat entryBytes (rawEntries es)),
-        length-append (tableUnder g) (tableFrom es),
-        entry-length raw (h .0 .val),
-        under-length g d (k .0),
-        from-length es d key (h .1) (k .1),
-      )
 
 -- ---- the listing
 refusal-length : (r : Refusal) → length (refusalLine r) ≤ longestListing

@@ -1,10 +1,11 @@
 -- The answer of a lookup, by cases of the verdict, the key rule and the search.
 use Prim.Native.Nat.{ℕ, _+_, _^_, _≤_, _<_}
 use mathlib.Core.Path.{_≡_, sym, ap, subst, _∙_}
-use mathlib.Core.Option.{none, some}
+use mathlib.Core.Option.{none, some, Option·some-injective}
 use mathlib.Core.List.{List, [], _∷_, map}
 use native.Mathlib.Omega.{arith}
-use lib.ListN.{length}
+use lib.ListN.{length, take, drop}
+use borrow.Table.Steps.{cases}
 use Rattle.answer.specs.declared.Refusal.{Refusal}
 use Rattle.answer.specs.declared.Refusal.the-variants.{KeyAbsent}
 use Rattle.answer.specs.declared.Answer.{Answer}
@@ -15,10 +16,10 @@ use Rattle.key.proofs.SlashLaws.{slash-done, slash-refused}
 use Rattle.page.proofs.Tools.{cond-inv}
 use Rattle.tree.specs.Record.{Record, records}
 use Rattle.tree.specs.Table.{SpeltTree}
-use Rattle.tree.specs.Judge.{most}
 use Rattle.tree.specs.Place.{places}
 use Rattle.page.proofs.Tools.{All}
 use Rattle.tree.proofs.Accept as accept
+use Rattle.tree.proofs.Laws.{Stand, places-stand}
 use Rattle.index.specs.Slot.{Slot, slots}
 use Rattle.index.specs.Standing.{SlotAt}
 use Rattle.index.specs.Accepted.{AcceptedIndex}
@@ -27,6 +28,7 @@ use Rattle.judge.specs.declared.Register.{Register}
 use Rattle.judge.specs.declared.Register.the-variants.{Accepted, Refused as Unfit}
 use Rattle.index.proofs.SlotLaws.{slots-places}
 use Rattle.index.proofs.Standing.{accepted-slots-stand, value-within}
+use Rattle.promises.specs.Map.{find}
 use Rattle.promises.specs.Outcome.{placeOf, lookupAnswer, lookupVerdict, answerPlace}
 use Rattle.row.specs.Search.{placeFound, SearchSays}
 use Rattle.row.specs.declared.search.Searched.{Searched}
@@ -53,6 +55,29 @@ place-among P k (r ∷ rs) (q ∷ ps) p h e =
     cond-inv (less k (r .key)) (λ _ f. absurd (none≢some f))
     (λ _ f. cond-inv (less (r .key) k) (λ _ g. place-among P k rs ps p (h .1) g) (λ _ g. subst P (some-place g) (h .0)) f) e
 
+-- and at it stands the value that the key finds
+place-value : (s k : List ℕ) (rs : List Record) (ps : List ℕ) → Stand s ps rs → (p : ℕ) (v : List ℕ) → placeOf k rs ps ≡ some p → find k rs ≡ some v
+    → take 32 (drop p s) ≡ v
+unfolding placeOf find
+place-value s k [] ps h p v = λ e f. absurd (none≢some e)
+place-value s k (r ∷ rs) [] h p v = λ e f. absurd (none≢some e)
+place-value s k (r ∷ rs) (q ∷ ps) h p v =
+    cases (less k (r .key)) (λ l. rw l (λ e f. absurd (none≢some e)))
+    (λ l. cases (less (r .key) k) (λ g. rw (l, g) (place-value s k rs ps (h .1) p v))
+    (λ g. rw (l, g) (λ e f. rw (← some-place e) (h .0 ∙ Option·some-injective (r .val) v f))))
+
+module _ {s index : List ℕ} {count : ℕ} (a : AcceptedIndex s index count) (b : Bytes s) (k : List ℕ) (place : ℕ)
+    (e : placeOf k (records (a .tree)) (places 0 (a .tree)) ≡ some place) where
+  pub place-within : place + 32 ≤ length s
+  place-within =
+      let t : SpeltTree = a .tree in
+      let within : All (λ i. i + 32 ≤ length s) (places 0 t) =
+      subst (All (λ i. i + 32 ≤ length s)) (slots-places 0 0 t) (values-within s (slots 0 0 t) (accepted-slots-stand s t b (a .judged))) in
+      place-among (λ i. i + 32 ≤ length s) k (records t) (places 0 t) place within e
+
+  pub place-holds : (v : List ℕ) → find k (records (a .tree)) ≡ some v → take 32 (drop place s) ≡ v
+  place-holds v = place-value s k (records (a .tree)) (places 0 (a .tree)) (places-stand s b (a .tree) (a .judged)) place v e
+
 -- ---- the answer
 module _ (s index row : List ℕ) (m : Register) (w : RegisterSays s m index row) where
   pub answer-refused : (r : Refusal) → m ≡ Unfit r → (k : List ℕ) → Refused r ≡ lookupAnswer s k
@@ -65,9 +90,6 @@ module _ (s index row : List ℕ) (m : Register) (w : RegisterSays s m index row
     given : AcceptedIndex s index count
     given = accepted-index s index row m w q
 
-    pub count-within : Bytes s → count ≤ most
-    count-within b = omega (arith, given .size, accept.accepted-table s b (given .tree) (given .judged) .fit .count)
-
     pub answer-unlawful : (k : List ℕ) (x : Answer) → x ≡ slashAnswer k → (r : Refusal) → x ≡ Refused r → Refused r ≡ lookupAnswer s k
     unfolding lookupAnswer lookupVerdict
     answer-unlawful k x e r p = let u = slash-refused k r (sym e ∙ p) in rw (given .judged, u .0, u .1)
@@ -79,12 +101,8 @@ module _ (s index row : List ℕ) (m : Register) (w : RegisterSays s m index row
 
       pub place-fits : Bytes s → (position place : ℕ) → r ≡ At position place → place < 2 ^ 32
       place-fits b position place p =
-          let t : SpeltTree = given .tree in
-          let a = accept.accepted-table s b t (given .judged) in
-          let within : All (λ i. i + 32 ≤ length s) (places 0 t) =
-          subst (All (λ i. i + 32 ≤ length s)) (slots-places 0 0 t) (values-within s (slots 0 0 t) (accepted-slots-stand s t b (given .judged))) in
-          let found : placeOf k (records t) (places 0 t) ≡ some place = sym searched ∙ ap placeFound p in
-          omega (arith, place-among (λ i. i + 32 ≤ length s) k (records t) (places 0 t) place within found, ap length (a .written), a .fit .size)
+          let a = accept.accepted-table s b (given .tree) (given .judged) in
+          omega (arith, place-within given b k place (sym searched ∙ ap placeFound p), ap length (a .written), a .fit .size)
 
       module _ (x : Answer) (e : x ≡ slashAnswer k) (n : ℕ) (o : x ≡ Done n) where
         answer-place : answerPlace (placeFound r) ≡ lookupAnswer s k

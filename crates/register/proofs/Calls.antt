@@ -1,7 +1,7 @@
 -- The writing calls: from what their parts say to the outcome.
 use Prim.Native.Nat.{ℕ, _+_, _-_, _^_, _≤_, _<_}
 use mathlib.Core.Path.{_≡_, refl, sym, ap, subst, _∙_}
-use mathlib.Core.Bool.{Bool, true, false}
+use mathlib.Core.Bool.{Bool, true}
 use mathlib.Core.Option.{none}
 use mathlib.Core.List.{List, [], _∷_, _++_, map, map-append}
 use native.Mathlib.Numerals.{add-one}
@@ -43,7 +43,7 @@ use Rattle.promises.proofs.MapLaws.{Sorted, rising-sorted}
 use Rattle.choice.proofs.Weaving.{weave-merge, remove-at, find-at}
 use Rattle.choice.proofs.Choosing.{all-first, first-at, all-drop, records-slice, records-front}
 use Rattle.register.proofs.Answering.{none≢some}
-use Rattle.register.proofs.Verdicts.{accepted-index, accepted-few}
+use Rattle.register.proofs.Verdicts.{accepted-index}
 use Rattle.register.proofs.Writing.{stopped-answer, stopped-output, written-many, written-answer, written-output, set-written, remove-absent, remove-written, merge-written}
 
 -- ---- answer and output
@@ -91,14 +91,10 @@ not-found k (r ∷ rs) (p ∷ ps) l e =
 pub record Accepting (s index : List ℕ) (count : ℕ) : Type 0 where
   pub bytes : Bytes s
   pub given : AcceptedIndex s index count
-  pub fits : count ≤ length index
 
 pub accepting : (s index row : List ℕ) (x : Register) → RegisterSays s x index row → {count n : ℕ} → x ≡ Accepted count n
-    → ((i : ℕ) → i < length s → getD s i 0 < 256) → length index ≡ 4096 → Accepting s index count
-accepting s index row x says e small size =
-    let bytes = bytes-of s small in
-    let given = accepted-index s index row x says e in
-    record { bytes = bytes; given = given; fits = omega (arith, accepted-few bytes given) }
+    → ((i : ℕ) → i < length s → getD s i 0 < 256) → Accepting s index count
+accepting s index row x says e small = record { bytes = bytes-of s small; given = accepted-index s index row x says e }
 
 module _ {s index : List ℕ} {count : ℕ} (a : Accepting s index count) where
   abbrev pub t : SpeltTree
@@ -108,24 +104,15 @@ module _ {s index : List ℕ} {count : ℕ} (a : Accepting s index count) where
   sorted = rising-sorted (records t) (accepted-table s (a .bytes) t (a .given .judged) .fit .order)
 
   pub short : length s < 2 ^ 24
-  short = accepted-short s index t count (a .bytes) (a .given .judged) (a .given .indexed) (a .given .size) (a .fits)
+  short = accepted-short s index t count (a .bytes) (a .given .judged) (a .given .indexed) (a .given .size) (a .given .room)
 
   pub row-first : (u : List ℕ) → length u < 2 ^ 24 → Row s u index count
-  row-first u = accepted-row s index t count (a .bytes) (a .given .judged) (a .given .indexed) (a .given .size) (a .fits) u
+  row-first u = accepted-row s index t count (a .bytes) (a .given .judged) (a .given .indexed) (a .given .size) (a .given .room) u
 
   pub records-first : (u : List ℕ) → recordsOf s u index count ≡ records t
-  records-first u = accepted-records s index t count (a .bytes) (a .given .judged) (a .given .indexed) (a .given .size) (a .fits) u
+  records-first u = accepted-records s index t count (a .bytes) (a .given .judged) (a .given .indexed) (a .given .size) (a .given .room) u
 
   -- ---- put and join
-  pub row-single : {k v page : List ℕ} {w : ℕ} → Single k v page w → length page < 2 ^ 24 → Row s page (w ∷ []) 1
-  row-single {page} {w} one h = record {
-    few = omega arith;
-    room = omega arith;
-    first = short;
-    second = h;
-    stands = first-at (Stands s page) (w ∷ []) 1 (omega arith) (one .stands s, tt);
-  }
-
   module _ (g : Bool) (k value v : List ℕ) (long : length value ≡ 32) (copied : 0 + 32 ≤ length value → v ≡ take 32 (drop 0 value))
       (page : List ℕ) (w : ℕ) (one : Single k v page w) where
     same-value : v ≡ value
@@ -153,7 +140,7 @@ module _ {s index : List ℕ} {count : ℕ} (a : Accepting s index count) where
         parts-stand : All (Stands s s) (take (count - 1) index′)
         unfolding LeftOut
         parts-stand =
-            let whole = all-first (Stands s s) index count (a .fits) (row-first s short .stands) in
+            let whole = all-first (Stands s s) index count (a .given .room) (row-first s short .stands) in
             rw left (all-append (Stands s s) (take position index) (drop (position + 1) (take count index))
             (all-first (Stands s s) index position (omega (arith, position-within)) (λ i h. row-first s short .stands i (omega (arith, position-within))))
             (all-drop (Stands s s) (position + 1) (take count index) whole))
@@ -191,17 +178,17 @@ module _ {s index : List ℕ} {count : ℕ} (a : Accepting s index count) where
 module _ {u others : List ℕ} {m : ℕ} (b : Accepting u others m) where
   pub words-below : Below others m
   unfolding Below
-  words-below i h = omega (arith, word-small u others (b .given .tree) m (b .bytes) (b .given .judged) (b .given .indexed) (b .given .size) (b .fits) i h)
+  words-below i h = omega (arith, word-small u others (b .given .tree) m (b .bytes) (b .given .judged) (b .given .indexed) (b .given .size) (b .given .room) i h)
 
   module _ (others′ : List ℕ) (same : length others′ ≡ length others) (moved : ToSecond others m others′) where
     pub row-second : (s : List ℕ) → length s < 2 ^ 24 → Row s u others′ m
     unfolding ToSecond
-    row-second s = second-row u others (b .given .tree) m (b .bytes) (b .given .judged) (b .given .indexed) (b .given .size) (b .fits) s others′ (omega arith) moved
+    row-second s = second-row u others (b .given .tree) m (b .bytes) (b .given .judged) (b .given .indexed) (b .given .size) (b .given .room) s others′ (omega arith) moved
 
     pub merge-done : {s index : List ℕ} {n : ℕ} → Accepting s index n → (out : ℕ) → written (wovenOf true s u index n others′ m) out ≡ mergeOutcome s u out
     unfolding ToSecond wovenOf
     merge-done {s} a out =
         let firsts = records-first a u in
-        let seconds = second-records u others (b .given .tree) m (b .bytes) (b .given .judged) (b .given .indexed) (b .given .size) (b .fits) s others′ (omega arith) moved in
+        let seconds = second-records u others (b .given .tree) m (b .bytes) (b .given .judged) (b .given .indexed) (b .given .size) (b .given .room) s others′ (omega arith) moved in
         ap (λ (rs : List Record). written rs out) (rw (firsts, seconds) (weave-merge (records (b .given .tree)) (records (a .given .tree)) (sorted b)))
         ∙ merge-written s u out (a .given .tree) (a .given .judged) (b .given .tree) (b .given .judged)

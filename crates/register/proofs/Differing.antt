@@ -86,30 +86,30 @@ marked-at (w ∷ l) zero h = refl
 marked-at (w ∷ l) (suc i) h = marked-at l i (omega arith)
 
 -- ---- the words that are staged
-module _ (s u other : List ℕ) (m : ℕ) (bytes : Bytes u) (x : AcceptedIndex u other m) (room : m ≤ length other) where
+module _ (s u other : List ℕ) (m : ℕ) (bytes : Bytes u) (x : AcceptedIndex u other m) where
   abbrev words : List ℕ
   words = marked (take m other)
 
   words-length : length words ≡ m
-  words-length = length-map (take m other) (λ w. w + 2 ^ 60) ∙ length-take-le m other room
+  words-length = length-map (take m other) (λ w. w + 2 ^ 60) ∙ length-take-le m other (x .room)
 
   words-all : take m words ≡ words
   words-all = take-all m words (omega (arith, words-length))
 
   words-at : (i : ℕ) → i < m → getD words i 0 ≡ getD other i 0 + 2 ^ 60
   words-at i h =
-      marked-at (take m other) i (omega (arith, length-take-le m other room)) ∙ ap (λ (w : ℕ). w + 2 ^ 60) (getD-take m other i 0 h)
+      marked-at (take m other) i (omega (arith, length-take-le m other (x .room))) ∙ ap (λ (w : ℕ). w + 2 ^ 60) (getD-take m other i 0 h)
 
   words-stand : length s < 2 ^ 24 → All (Stands s u) words
   words-stand h =
-      let row = second-row u other (x .tree) m bytes (x .judged) (x .indexed) (x .size) room s words (omega (arith, words-length)) words-at h in
+      let row = second-row u other (x .tree) m bytes (x .judged) (x .indexed) (x .size) (x .room) s words (omega (arith, words-length)) words-at h in
       subst (All (Stands s u)) words-all (all-first (Stands s u) words m (row .room) (row .stands))
 
   words-records : map (recordOf s u) words ≡ records (x .tree)
   unfolding recordsOf
   words-records =
       ap (map (recordOf s u)) (sym words-all)
-      ∙ second-records u other (x .tree) m bytes (x .judged) (x .indexed) (x .size) room s words (omega (arith, words-length)) words-at
+      ∙ second-records u other (x .tree) m bytes (x .judged) (x .indexed) (x .size) (x .room) s words (omega (arith, words-length)) words-at
 
   -- the first words of the row stand for the records in opened pages
   module _ (first : List (List ℕ)) (r : Opening) (row : List ℕ) (o : OpenedStaged first (x .tree) other m r row) (fits : m ≤ length row) where
@@ -121,7 +121,7 @@ module _ (s u other : List ℕ) (m : ℕ) (bytes : Bytes u) (x : AcceptedIndex u
       few = omega (arith, o .fits, accepted-few bytes x);
       room = omega (arith, o .fits);
       first = h;
-      second = accepted-short u other (x .tree) m bytes (x .judged) (x .indexed) (x .size) room;
+      second = accepted-short u other (x .tree) m bytes (x .judged) (x .indexed) (x .size) (x .room);
       stands = first-at (Stands s u) row (r .staged) (omega (arith, o .fits)) (rw (o .staged) (pick-all (Stands s u) bs words (words-stand h)));
     }
 
@@ -166,8 +166,6 @@ pub record Both (s u index other : List ℕ) (n m : ℕ) : Type 0 where
   pub others : Bytes u
   pub first : AcceptedIndex s index n
   pub second : AcceptedIndex u other m
-  pub fits : n ≤ length index
-  pub others-fit : m ≤ length other
 
 module _ {s u index other : List ℕ} {n m : ℕ} (b : Both s u index other n m) where
   abbrev t : SpeltTree
@@ -188,9 +186,9 @@ module _ {s u index other : List ℕ} {n m : ℕ} (b : Both s u index other n m)
   second-short : length u ≤ longest
   second-short = omega (arith, ap length (secondAccepted .written), secondAccepted .fit .size)
 
-  pub may-open : {known chains : List ℕ} {k l : ℕ} → ChainRow s known k → ChainRow u chains l
-      → ChainRow s known k × ChainRow u chains l × AcceptedIndex u other m × (m ≤ length other) × (m ≤ most) × (length s ≤ longest) × (length u ≤ longest)
-  may-open x y = (x, y, b .second, b .others-fit, accepted-few (b .others) (b .second), first-short, second-short)
+  pub may-open : {known chains : List ℕ} {k l room : ℕ} → ChainRow s known k → ChainRow u chains l → m ≤ room
+      → ChainRow s known k × ChainRow u chains l × AcceptedIndex u other m × (m ≤ room) × (length s ≤ longest) × (length u ≤ longest)
+  may-open x y h = (x, y, b .second, h, first-short, second-short)
 
   -- what is opened rises
   second-sorted : Sorted (records v)
@@ -199,19 +197,16 @@ module _ {s u index other : List ℕ} {n m : ℕ} (b : Both s u index other n m)
   opened-sorted : Sorted (openedRecords (pagesOf t) v)
   opened-sorted = sorted-part (opened-part (pagesOf t) v) second-sorted
 
-  module _ (r : Opening) (row : List ℕ) (o : (w : SpeltTree) → judge u ≡ accepted w → OpenedStaged (pagesIn (judge s)) w other m r row) (size : length row ≡ most) where
+  module _ (r : Opening) (row : List ℕ) (o : (w : SpeltTree) → judge u ≡ accepted w → OpenedStaged (pagesIn (judge s)) w other m r row) (enough : m ≤ length row) where
     staged : OpenedStaged (pagesOf t) v other m r row
     unfolding pagesIn
     staged = rw (b .first .judged) at (o v (b .second .judged))
 
-    enough : m ≤ length row
-    enough = omega (arith, accepted-few (b .others) (b .second))
-
-    pub may-leave : {k : ℕ} → most ≤ k → Row s u index n × Row s u row (r .staged) × (most ≤ k)
-    may-leave h = (
-      accepted-row s index t n (b .bytes) (b .first .judged) (b .first .indexed) (b .first .size) (b .fits) u (omega (arith, second-short)),
-      row-staged s u other m (b .others) (b .second) (b .others-fit) (pagesOf t) r row staged enough (omega (arith, first-short)),
-      h,
+    pub may-leave : Row s u index n × Row s u row (r .staged) × (r .staged ≤ length other)
+    may-leave = (
+      accepted-row s index t n (b .bytes) (b .first .judged) (b .first .indexed) (b .first .size) (b .first .room) u (omega (arith, second-short)),
+      row-staged s u other m (b .others) (b .second) (pagesOf t) r row staged enough (omega (arith, first-short)),
+      omega (arith, staged .fits, b .second .room),
     )
 
     -- each opened page has at least one byte
@@ -225,8 +220,8 @@ module _ {s u index other : List ℕ} {n m : ℕ} (b : Both s u index other n m)
     unfolding siftedOf
     sifted-records =
         rw (
-          accepted-records s index t n (b .bytes) (b .first .judged) (b .first .indexed) (b .first .size) (b .fits) u,
-          records-staged s u other m (b .others) (b .second) (b .others-fit) (pagesOf t) r row staged enough,
+          accepted-records s index t n (b .bytes) (b .first .judged) (b .first .indexed) (b .first .size) (b .first .room) u,
+          records-staged s u other m (b .others) (b .second) (pagesOf t) r row staged enough,
         )
         (sift-lacking (records t) (openedRecords (pagesOf t) v) opened-sorted ∙ sym (difference-opened t v second-sorted))
 

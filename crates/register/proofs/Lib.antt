@@ -4,5 +4,6 @@ pub mod Listings
 pub mod Answering
 pub mod Writing
 pub mod Calls
+pub mod Setting
 pub mod Differing
 pub mod Ranges

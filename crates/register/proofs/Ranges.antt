@@ -34,8 +34,19 @@ use Rattle.choice.proofs.Choosing.{records-slice, records-front}
 use Rattle.choice.proofs.Turns.{part-is}
 use Rattle.register.specs.Writing.{written}
 use Rattle.register.specs.Beside.{besideOutcome}
+use Rattle.register.specs.Positions.{acceptedRecords, recordsFrom}
 use Rattle.register.proofs.Verdicts.{accepted-few}
 use Rattle.register.proofs.Calls.{Accepting, t, sorted, short, row-first, records-first}
+
+-- ---- the records of an accepted register
+module _ {s index : List ℕ} {count : ℕ} (a : AcceptedIndex s index count) where
+  records-in : acceptedRecords (judge s) ≡ records (a .tree)
+  unfolding acceptedRecords
+  records-in = rw (a .judged)
+
+  pub counts : (counted : List Record → ℕ) (r : ℕ) → CountSays counted s index count r → r ≡ counted (acceptedRecords (judge s))
+  unfolding CountSays
+  counts counted r says = says (a .tree) (a .judged) (a .size) (a .indexed) ∙ ap counted (sym records-in)
 
 -- ---- beside a key
 module _ (b : Bool) (s k : List ℕ) (room : ℕ) where
@@ -56,10 +67,9 @@ module _ {s index : List ℕ} {count : ℕ} (a : AcceptedIndex s index count) (k
   unfolding oneRecord listOutcome listVerdict listRecord
   as-listed o n h e = rw (e, a .judged, nth-there n rs nothing (omega (arith, a .size)))
 
-  module _ (n : ℕ) (says : CountSays (countBelow k) s index count n) (b : Bool) where
+  module _ (n : ℕ) (says : n ≡ countBelow k (acceptedRecords (judge s))) (b : Bool) where
     below : n ≡ countBelow k rs
-    unfolding CountSays
-    below = says (a .tree) (a .judged) (a .size) (a .indexed)
+    below = says ∙ ap (countBelow k) (records-in a)
 
     pub after-given : b ≡ true → n < count → listOutcome s n room ≡ besideOutcome b s k room
     unfolding besideOutcome atOrAfterOutcome besideKey
@@ -114,7 +124,7 @@ module _ {s index : List ℕ} {count : ℕ} (a : Accepting s index count) (low h
   part = take (high - low) (drop low index)
 
   part-length : length part ≡ high - low
-  part-length = simp (length-take, length-drop) (omega (arith, a .fits))
+  part-length = simp (length-take, length-drop) (omega (arith, a .given .room))
 
   part-row : Row s s part (high - low)
   part-row =
@@ -135,32 +145,22 @@ module _ {s index : List ℕ} {count : ℕ} (a : Accepting s index count) (low h
       ∙ ap (drop low) (records-front s s index count high within ∙ ap (take high) (records-first a s))
       ∙ sym (part-is high low (records (t a))))
 
+  pub range-row : RowOf s s (take (high - low) (drop low index)) (high - low) (recordsFrom low high (acceptedRecords (judge s)))
+  range-row = record { whole = part-row; records = part-records ∙ ap (recordsFrom low high) (sym (records-in (a .given))) }
+
 -- with the ends that the two keys have
 module _ {s index : List ℕ} {count : ℕ} (a : Accepting s index count) (first last : List ℕ) (low high : ℕ)
-    (from : CountSays (countBelow first) s index count low) (to : CountSays (countUpTo last) s index count high)
-    (h : less last first ≡ false) (within : high ≤ count) where
-  starts : low ≡ countBelow first (records (t a))
-  unfolding CountSays
-  starts = from (t a) (a .given .judged) (a .given .size) (a .given .indexed)
-
-  ends : high ≡ countUpTo last (records (t a))
-  unfolding CountSays
-  ends = to (t a) (a .given .judged) (a .given .size) (a .given .indexed)
-
+    (from : low ≡ countBelow first (acceptedRecords (judge s))) (to : high ≡ countUpTo last (acceptedRecords (judge s))) (h : less last first ≡ false) where
   pub run-rises : low ≤ high
-  run-rises = omega (arith, starts, ends, counts-rise first last h (records (t a)))
+  run-rises = omega (arith, from, to, counts-rise first last h (acceptedRecords (judge s)))
 
-  pub run-row : RowOf s s (take (high - low) (drop low index)) (high - low) (recordsBetween first last (records (t a)))
-  run-row = record {
-    whole = part-row a low high run-rises within;
-    records = part-records a low high run-rises within ∙ rw (starts, ends) (sym (between-slice first last (records (t a)) (sorted a)));
-  }
+  between : recordsFrom low high (acceptedRecords (judge s)) ≡ recordsBetween first last (records (t a))
+  between = rw (from, to, records-in (a .given)) (sym (between-slice first last (records (t a)) (sorted a)))
 
-module _ {s index : List ℕ} {count : ℕ} (a : Accepting s index count) (first last : List ℕ) (room : ℕ) where
-  pub run-done : lawful first ≡ true → lawful last ≡ true → less last first ≡ false
-      → written (recordsBetween first last (records (t a))) room ≡ runOutcome s first last room
-  run-done l g h =
-      run-written s first last room (t a) (a .given .judged) l g h (omega (arith, a .given .size, accepted-few (a .bytes) (a .given)))
+  pub run-done : (room : ℕ) → lawful first ≡ true → lawful last ≡ true → written (recordsFrom low high (acceptedRecords (judge s))) room ≡ runOutcome s first last room
+  run-done room l g =
+      ap (λ (rs : List Record). written rs room) between
+      ∙ run-written s first last room (t a) (a .given .judged) l g h (omega (arith, a .given .size, accepted-few (a .bytes) (a .given)))
 
 -- ---- whether a key is less than another
 pub less-no : {x : Bool} (b : Bool) → b ≡ x → b ≡ false → x ≡ false

@@ -1,2 +1,4 @@
 pub mod Writing
+pub mod Setting
 pub mod Beside
+pub mod Positions

@@ -1,4 +1,4 @@
--- What put and join have in common, and what is written of a result. Contracts inside this crate cite it, and no public contract does.
+-- What put and join have in common, and what is written of a result. Contracts inside the library cite it, and no public contract does.
 use Prim.Native.Nat.{ℕ}
 use mathlib.Core.Bool.{Bool, true, false}
 use mathlib.Core.List.{List}

@@ -24,13 +24,13 @@ pub fn differ(
     n: usize,
     other: &mut [u64],
     m: usize,
+    staged: &mut [u64],
     out: &mut [u8],
 ) -> Differed
-    requires { ⌜ AcceptedIndex (now first) (now index) n × AcceptedIndex (now second) (now other) m × ChainRow (now first) (now «first_chains») «first_count» × ChainRow (now second) (now «second_chains») «second_count» × (n ≤ length (now index)) × (m ≤ length (now other)) × (4096 ≤ length (now other)) ⌝ }
+    requires { ⌜ AcceptedIndex (now first) (now index) n × AcceptedIndex (now second) (now other) m × ChainRow (now first) (now «first_chains») «first_count» × ChainRow (now second) (now «second_chains») «second_count» × (m ≤ length (now staged)) ⌝ }
     ensures answer { λ r. ⌜ r ≡ differenceAnswer (differenceOutcome (now (first .entry)) (now (second .entry)) (length (now (out .entry)))) ⌝ }
     ensures output { λ _. ⌜ now (out .exit) ≡ differenceOutput (differenceOutcome (now (first .entry)) (now (second .entry)) (length (now (out .entry)))) (length (now (out .entry))) ⌝ }
 {
-    let mut staged = [0u64; 4096];
     let opening = open_pages(
         first,
         first_chains,
@@ -40,10 +40,10 @@ pub fn differ(
         second_count,
         other,
         m,
-        &mut staged,
+        staged,
     );
     let opened = opening.opened as u32;
-    let count = leave_held(first, second, index, n, &staged, opening.staged, other);
+    let count = leave_held(first, second, index, n, staged, opening.staged, other);
     match write_table(
         first,
         second,

@@ -1,10 +1,10 @@
 -- The way to the entry at a word's places, from the start of its page or from a key held, and the key that the buffer holds on it.
-use Prim.Native.Nat.{ℕ, _-_, _≤_, _<_}
+use Prim.Native.Nat.{ℕ, _+_, _-_, _≤_, _<_}
 use mathlib.Core.Path.{_≡_, sym, subst, _∙_}
 use mathlib.Core.List.{List}
 use native.Mathlib.Omega.{arith}
 use lib.ListN.{length, drop}
-use Rattle.page.specs.Place.{EntryHere, EntryIs, NumberIs, pageStart, Reads, stopped}
+use Rattle.page.specs.Place.{EntryHere, Located, LocatedIs, NumberIs, pageStart, Reads, stopped}
 use Rattle.page.specs.Page.{entry as entryReader}
 use Rattle.page.specs.declared.reading.Stop.{Stop}
 use Rattle.page.specs.declared.reading.EntryAt.{EntryAt}
@@ -17,7 +17,7 @@ use Rattle.index.specs.Buffer.{HoldsKey, Extended}
 use Rattle.index.specs.Word.{pageIn, entryIn}
 use Rattle.index.specs.Standing.{SlotAt}
 use Rattle.index.proofs.Buffers.{holds-none}
-use Rattle.index.proofs.Standing.{same-end, read-not-stopped, steps-ahead, steps-done, steps-next, steps-read, steps-split, slot-steps, slot-key, slot-value}
+use Rattle.index.proofs.Standing.{same-end, read-not-stopped, steps-ahead, steps-done, steps-next, steps-there, steps-split, slot-steps, slot-key, slot-value}
 use Rattle.row.specs.Memory.{sizeIn, NoteHolds}
 use Rattle.row.specs.Fetch.{FetchSays, OnTheWay, StartSays}
 use Rattle.row.specs.declared.fetch.Found.{Found}
@@ -58,28 +58,42 @@ module _ (s : List ℕ) (page entry note : ℕ) (m : Start) (v : StartSays s pag
   unfolding FetchSays
   no-way q word same-page buffer buffer′ r x w p e h = absurd (subst (StartSays s page entry note) q v x w (same-page ∙ p))
 
+-- ---- an entry that is located
+module _ (s : List ℕ) (at : ℕ) (m : EntryRead) (v : LocatedIs s at m) (e : EntryAt) (q : m ≡ Entry e) where
+  located : Located s at e
+  located = subst (LocatedIs s at) q v
+
+  pub located-inside : e .remainder + e .size ≤ length s
+  located-inside = omega (arith, located .inside, located .within)
+
+  pub located-shares : e .shares < 65536
+  located-shares = located .shares
+
+  pub located-size : e .size < 65536
+  located-size = located .size
+
+  pub nearer : length s - e .end < length s - at
+  nearer = omega (arith, located .ahead, located .within)
+
 -- ---- a turn of the loop
 module _ (s : List ℕ) (word page entry note at : ℕ) (buffer₀ buffer : List ℕ) (size : ℕ) (same-page : page ≡ pageIn word) (same-entry : entry ≡ entryIn word)
-    (u : OnTheWay s page entry note buffer₀ at buffer size) (m : EntryRead) (v : EntryIs s at m) where
-  pub nearer : (e : EntryAt) → m ≡ Entry e → length s - e .end < length s - at
-  nearer e q =
-      let here : EntryHere s at e = subst (EntryIs s at) q v in
-      omega (arith, here .whole .ahead, here .whole .within)
-
+    (u : OnTheWay s page entry note buffer₀ at buffer size) (m : EntryRead) (v : LocatedIs s at m) where
   -- before the slot's entry
   module _ (h : at < entry) where
     pub way-on : (e : EntryAt) → m ≡ Entry e → (buffer′ : List ℕ) (size′ : ℕ)
         → Extended buffer size s (e .shares) (e .remainder) (e .size) buffer′ size′ → OnTheWay s page entry note buffer₀ (e .end) buffer′ size′
     unfolding OnTheWay Extended
     way-on e q buffer′ size′ z x w p k held =
-        let here : EntryHere s at e = subst (EntryIs s at) q v in
         let y = u x w p k held in
-        record { key = _; holds = z (y .key) (y .holds); steps = steps-next (y .steps) (omega (arith, k)) (here .whole) }
+        let before : at < x .entry = omega (arith, k) in
+        steps-there (y .steps) before (λ a to r.
+        record { key = _; holds = z (y .key) (y .holds); steps = steps-next (y .steps) before (located s at m v e q .here a to r .whole) })
 
     pub way-stops : (stop : Stop) → m ≡ EntryStop stop → (buffer′ : List ℕ) (r : Found) → FetchSays s word buffer₀ note buffer′ r
     unfolding OnTheWay FetchSays
     way-stops stop q buffer′ r x w p k held =
-        absurd (steps-read (u x w (same-page ∙ p) (same-entry ∙ k) held .steps) (omega (arith, same-entry, k)) stop (subst (EntryIs s at) q v))
+        steps-there (u x w (same-page ∙ p) (same-entry ∙ k) held .steps) (omega (arith, same-entry, k)) (λ a to reads.
+        absurd (subst (LocatedIs s at) q v a to reads))
 
   -- at the slot's entry
   module _ (h : entry ≤ at) where
@@ -87,13 +101,18 @@ module _ (s : List ℕ) (word page entry note at : ℕ) (buffer₀ buffer : List
     unfolding OnTheWay
     arrived x w p k held = omega (arith, same-entry, k, steps-ahead (u x w (same-page ∙ p) (same-entry ∙ k) held .steps))
 
+    -- where it is read
+    entry-read : (x : Slot) (w : SlotAt s x) → at ≡ x .entry → Reads entryReader s at (w .spells) (w .past)
+    entry-read x w there = subst (λ (i : ℕ). Reads entryReader s i (w .spells) (w .past)) (sym there) (w .reads)
+
     pub way-ends : (e : EntryAt) → m ≡ Entry e → (buffer′ : List ℕ) (size′ : ℕ) → Extended buffer size s (e .shares) (e .remainder) (e .size) buffer′ size′
         → FetchSays s word buffer₀ note buffer′ (record { size = size′; value = e .value; next = e .end })
     unfolding OnTheWay Extended FetchSays
     way-ends e q buffer′ size′ z x w p k held =
         let y = u x w (same-page ∙ p) (same-entry ∙ k) held in
         let there : at ≡ x .entry = arrived x w p k held in
-        let here : EntryHere s (x .entry) e = subst (λ (i : ℕ). EntryHere s i e) there (subst (EntryIs s at) q v) in
+        let found : EntryHere s at e = located s at m v e q .here (w .spells) (w .past) (entry-read x w there) in
+        let here : EntryHere s (x .entry) e = subst (λ (i : ℕ). EntryHere s i e) there found in
         let before : y .key ≡ w .before = steps-done (y .steps) (omega (arith, there)) in
         record {
           holds = subst (HoldsKey buffer′ size′) (slot-key w here) (z (w .before) (subst (HoldsKey buffer size) before (y .holds)));
@@ -104,6 +123,4 @@ module _ (s : List ℕ) (word page entry note at : ℕ) (buffer₀ buffer : List
     pub way-breaks : (stop : Stop) → m ≡ EntryStop stop → (buffer′ : List ℕ) (r : Found) → FetchSays s word buffer₀ note buffer′ r
     unfolding FetchSays
     way-breaks stop q buffer′ r x w p k held =
-        let at-entry : entryReader (drop (x .entry) s) ≡ stopped stop =
-        subst (λ (i : ℕ). entryReader (drop i s) ≡ stopped stop) (arrived x w p k held) (subst (EntryIs s at) q v) in
-        absurd (read-not-stopped (w .reads) stop at-entry)
+        absurd (subst (LocatedIs s at) q v (w .spells) (w .past) (entry-read x w (arrived x w p k held)))

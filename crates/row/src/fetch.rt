@@ -2,7 +2,7 @@
 use index::buffer::extend;
 use page::reading::EntryRead;
 use page::reading::NumberRead;
-use page::reading::read_entry;
+use page::reading::locate_entry;
 use page::reading::read_page_start;
 ghost use Prim.Native.Nat.{ℕ};
 ghost use Rattle.row.specs.Row.{sourceOf};
@@ -69,7 +69,7 @@ pub fn fetch_from(s: &[u8], word: u64, buffer: &mut [u8], note: u64) -> Found
             let mut size = held;
             let mut at = first;
             while at < entry {
-                match read_entry(s, at) {
+                match locate_entry(s, at) {
                     EntryRead::Entry(e) => {
                         size = extend(buffer, size, s, e.shares, e.remainder, e.size);
                         at = e.end;
@@ -79,7 +79,7 @@ pub fn fetch_from(s: &[u8], word: u64, buffer: &mut [u8], note: u64) -> Found
                     }
                 }
             }
-            match read_entry(s, at) {
+            match locate_entry(s, at) {
                 EntryRead::Entry(e) => Found {
                     size: extend(buffer, size, s, e.shares, e.remainder, e.size),
                     value: e.value,

@@ -13,16 +13,14 @@ pub struct Recalled {
     pub value: usize,
 }
 
-// Of each register a key for each layer, so that a page goes on where it was left; the layers from 31 on, which are rare, share one.
+// Of each register a key for each layer, so that a page goes on where it was left. Layers that differ by 32 share one: pages of both would
+// have to stand in turn, and no key of a layer from 32 on will be found.
 fn slot_of(word: u64) -> usize
     ensures { λ r. ⌜ r < 64 ⌝ }
 {
-    let layer = (word / 0x1_0000_0000_0000 % 0x100) as usize;
+    let layer = (word / 0x1_0000_0000_0000 % 32) as usize;
     let side = (word / 0x1000_0000_0000_0000 % 2) as usize;
-    if layer < 31 {
-        return side * 32 + layer;
-    }
-    side * 32 + 31
+    side * 32 + layer
 }
 
 // A note on a key of the register that the word belongs to; on another register's it is none.

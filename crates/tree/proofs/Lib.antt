@@ -6,6 +6,7 @@ pub mod Depths
 pub mod Spelling
 pub mod Shape
 pub mod Tables
+pub mod Sizes
 pub mod Accept
 pub mod TableBytes
 pub mod Growing

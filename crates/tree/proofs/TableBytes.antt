@@ -2,12 +2,11 @@
 use Prim.Native.Nat.{ℕ, zero, suc}
 use mathlib.Core.Path.{_≡_}
 use mathlib.Core.List.{List, [], _∷_, _++_}
-use lib.ListN.{take, drop, take-append-drop}
 use Rattle.fips180.specs.Bytes.{Bytes}
 use Rattle.fips180.proofs.Laws.{bytes-sha256}
 use Rattle.key.specs.Key.{shared}
 use Rattle.key.proofs.Laws.{lawful-bytes}
-use Rattle.page.proofs.Tools.{All, all-split, bytes-append, bytes-right}
+use Rattle.page.proofs.Tools.{All, all-split, bytes-append, bytes-drop}
 use Rattle.page.proofs.AllBytes.{ByteGap, ByteEntry, page-bytes}
 use Rattle.tree.specs.Tree.{Page, page, Gap, empty, under, Entries, end, entry, items, itemsUnder, itemsFrom}
 use Rattle.tree.specs.Record.{Record, spelt, speltUnder, speltFrom}
@@ -22,9 +21,6 @@ pub record ByteRecord (r : Record) : Type 0 where
   pub key : Bytes (r .key)
   pub val : Bytes (r .val)
 
-drop-bytes : (n : ℕ) (s : List ℕ) → Bytes s → Bytes (drop n s)
-drop-bytes n s b = bytes-right (take n s) (drop n s) (rw (take-append-drop n s) b)
-
 -- links carry digests, and these are bytes
 link-is-bytes : (g : Gap Record (List ℕ)) → LabelledUnder digestOf g → ByteGap (linkOf (speltUnder g))
 unfolding Labelled linkOf spelt digestOf
@@ -36,7 +32,7 @@ entries-are-bytes : (before : List ℕ) (es : Entries Record (List ℕ)) → All
 unfolding Labelled rawEntries spelt items
 entries-are-bytes before end h k = tt
 entries-are-bytes before (entry r g es) h k = (
-  record { remainder = drop-bytes (shared before (r .key)) (r .key) (h .0 .key); after = link-is-bytes g (k .0); val = h .0 .val },
+  record { remainder = bytes-drop (shared before (r .key)) (r .key) (h .0 .key); after = link-is-bytes g (k .0); val = h .0 .val },
   entries-are-bytes (r .key) es (all-split ByteRecord (itemsUnder g) (itemsFrom es) (h .1) .1) (k .1),
 )
 

@@ -6,6 +6,7 @@ use mathlib.Core.Option.{some}
 use mathlib.Core.List.{List, _++_, append-assoc}
 use native.Mathlib.Omega.{arith}
 use borrow.Author.Tests.{not-true, not-false, le-leb, lt-leb, leb-true, leb-false}
+use borrow.Table.Steps.{cases}
 use lib.ListN.{length, take, drop}
 use lib.Seq.{take-at}
 use Rattle.fips180.specs.Hash.{sha256, zeros}
@@ -14,7 +15,7 @@ use Rattle.tree.specs.Tree.{Page, Gap, empty, under, Placed, gapOf, build}
 use Rattle.tree.specs.Record.{Record, spelt, speltUnder}
 use Rattle.tree.specs.Table.{linkOf, bytesOfPage, table, tableUnder, digestOf}
 use Rattle.writer.specs.Build.{span, gapFor}
-use Rattle.writer.specs.Wrote.{Done, Written, GapDone, GapWritten, hasPage}
+use Rattle.writer.specs.Wrote.{Done, Written, belowOf, GapDone, GapWritten, hasPage}
 use Rattle.writer.specs.declared.pages.Wrote.{Wrote}
 use Rattle.writer.specs.declared.pages.Below.{Below}
 use Rattle.writer.proofs.Ranges.{tableIn, behindPage, table-front, table-longer}
@@ -39,10 +40,19 @@ module _ {t : Page Record (List ℕ)} {o after : List ℕ} {r : Wrote} (w : Writ
       table-done .wrote ∙ ap (λ (l : List ℕ). l ++ drop (length (table (spelt t))) o) (table-front t) ∙ append-assoc (bytesOfPage (spelt t)) (behindPage t) (drop (length (table (spelt t))) o) in
       rw whole (take-at (bytesOfPage (spelt t)) rest (r .own) (sym (table-done .first)))
 
-pub own-fits : {t : Page Record (List ℕ)} {o after : List ℕ} {r : Wrote} → Written t o after r → not (r .room) ≡ false → length after ≡ length o → r .own ≤ length after
-own-fits {t} {r} w e k =
-    let e′ : r .room ≡ true = not-false (r .room) e in
-    omega (arith, table-done w e′ .first, table-longer t, table-fits w e′)
+pub own-fits : {t : Page Record (List ℕ)} {o after : List ℕ} {r : Wrote} → Written t o after r → length after ≡ length o → r .room ≡ true → r .own ≤ length after
+own-fits {t} w k e = omega (arith, table-done w e .first, table-longer t, table-fits w e)
+
+-- ---- what a gap has where a page was written
+module _ (w : Wrote) (out : List ℕ) where
+  pub below-refused : not (w .room) ≡ true → (b : Below) → b ≡ record { room = false; linked = false; len = 0; digest = zeros 32 } → b ≡ belowOf w out
+  unfolding belowOf
+  below-refused e b eb = eb ∙ rw (not-true (w .room) e)
+
+  pub below-linked : not (w .room) ≡ false → (digest : List ℕ) → digest ≡ sha256 (take (w .own) out)
+      → record { room = true; linked = true; len = w .len; digest = digest } ≡ belowOf w out
+  unfolding belowOf
+  below-linked e digest d = rw (not-false (w .room) e, d)
 
 -- ---- the gap of a range
 gap-none : (n : ℕ) (f : ℕ → Placed Record) (i m : ℕ) → hasPage n m ≡ false → gapFor n (span f i m) ≡ empty
@@ -68,22 +78,21 @@ unfolding tableUnder speltUnder linkOf
 nothing-written g o e = rw e (record { room = sym (le-leb 0 (length o) (omega arith)); done = record { wrote = refl; size = refl; link = refl; whole = refl } })
 
 module _ {t : Page Record (List ℕ)} {o after : List ℕ} {r : Wrote} (w : Written t o after r) where
-  page-refused : r .room ≡ false → GapWritten (under (digestOf t) t) o after (record { room = false; linked = false; len = 0; digest = zeros 32 })
-  unfolding tableUnder speltUnder
-  page-refused e = record { room = sym e ∙ w .room; done = tt }
+  page-refused : r .room ≡ false → GapWritten (under (digestOf t) t) o after (belowOf r after)
+  unfolding tableUnder speltUnder belowOf
+  page-refused e = rw e (record { room = sym e ∙ w .room; done = tt })
 
-  page-linked : r .room ≡ true → (digest : List ℕ) → digest ≡ sha256 (take (r .own) after)
-      → GapWritten (under (digestOf t) t) o after (record { room = true; linked = true; len = r .len; digest = digest })
-  unfolding tableUnder speltUnder linkOf digestOf
-  page-linked e digest d = record {
+  page-linked : r .room ≡ true → GapWritten (under (digestOf t) t) o after (belowOf r after)
+  unfolding tableUnder speltUnder linkOf digestOf belowOf
+  page-linked e = rw e (record {
     room = sym e ∙ w .room;
     done = record {
       wrote = table-done w e .wrote;
       size = table-done w e .size;
-      link = ap (λ (l : List ℕ). some l) (d ∙ ap sha256 (first-page w e));
-      whole = ap length d ∙ length-sha256 (take (r .own) after);
+      link = ap (λ (l : List ℕ). some (sha256 l)) (first-page w e);
+      whole = length-sha256 (take (r .own) after);
     };
-  }
+  })
 
 module _ (n : ℕ) (f : ℕ → Placed Record) (i m : ℕ) (o after : List ℕ) (linked : Bool) (ep : linked ≡ hasPage n m) where
   pub gap-nothing : not linked ≡ true → (b : Below) → b ≡ record { room = true; linked = false; len = 0; digest = zeros 32 } → GapWritten (gapFor n (span f i m)) o o b
@@ -92,16 +101,9 @@ module _ (n : ℕ) (f : ℕ → Placed Record) (i m : ℕ) (o after : List ℕ) 
   pub gap-layer : not linked ≡ false → 0 < n
   gap-layer e = some-layer n m (sym ep ∙ not-false linked e)
 
-  module _ (e : not linked ≡ false) {r : Wrote} (w : Written (build digestOf (n - 1) (span f i m)) o after r) where
-    page-there : gapFor n (span f i m) ≡ under (digestOf (build digestOf (n - 1) (span f i m))) (build digestOf (n - 1) (span f i m))
-    page-there = gap-page n f i m (sym ep ∙ not-false linked e)
-
-    pub gap-refused : not (r .room) ≡ true → (b : Below) → b ≡ record { room = false; linked = false; len = 0; digest = zeros 32 } → GapWritten (gapFor n (span f i m)) o after b
-    gap-refused h b eb = rw (eb, page-there) (page-refused w (not-true (r .room) h))
-
-    pub gap-linked : not (r .room) ≡ false → (digest : List ℕ) → digest ≡ sha256 (take (r .own) after)
-        → GapWritten (gapFor n (span f i m)) o after (record { room = true; linked = true; len = r .len; digest = digest })
-    gap-linked h digest d = rw page-there (page-linked w (not-false (r .room) h) digest d)
+  pub gap-below : not linked ≡ false → (k : ℕ) → n - 1 ≡ k → {r : Wrote} → Written (build digestOf k (span f i m)) o after r → (b : Below) → b ≡ belowOf r after
+      → GapWritten (gapFor n (span f i m)) o after b
+  gap-below e k ek {r} w b eb = rw (eb, gap-page n f i m (sym ep ∙ not-false linked e), ek) (cases (r .room) (page-linked w) (page-refused w))
 
 -- ---- what a caller makes of it
 module _ {g : Gap Record (List ℕ)} {o after : List ℕ} {b : Below} (w : GapWritten g o after b) where

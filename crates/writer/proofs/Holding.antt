@@ -1,14 +1,19 @@
 -- The memory along a loop, and the key before in the page, held in an array.
 use Prim.Native.Nat.{ℕ, _+_, _-_, _≤_}
 use mathlib.Core.Path.{_≡_, sym, ap, _∙_}
-use mathlib.Core.Bool.{Bool}
+use mathlib.Core.Bool.{Bool, true, false}
 use mathlib.Core.List.{List}
 use native.Mathlib.Omega.{arith}
+use borrow.Author.Tests.{le-leb}
+use lib.Dec.{leb}
 use lib.ListN.{length, take, drop, length-take, length-append, length-drop}
 use lib.Seq.{take-at, length-take-le}
 use Rattle.page.specs.Page.{entryBytes}
+use Rattle.key.specs.Key.{shared}
+use Rattle.key.proofs.Laws.{lawful-length}
 use Rattle.page.specs.Front.{front, linkIf, entryLength, entryAfter}
-use Rattle.page.proofs.Sizes.{length-entry}
+use Rattle.page.proofs.Sizes.{most-number, length-entry}
+use Rattle.index.specs.Slot.{keyOf}
 use Rattle.index.proofs.Standing.{value-within}
 use Rattle.row.specs.Row.{sourceOf, recordOf, Stands}
 use Rattle.row.proofs.Rows.{word-record}
@@ -40,6 +45,15 @@ val-length {s} {u} {w} stands =
     let v = stands .held in
     let k : 32 ≤ length (drop (v .slot .value) (sourceOf s u w)) = omega (arith, value-within (v .there), length-drop (v .slot .value) (sourceOf s u w)) in
     rw (word-record v, ← v .there .bytes) (length-take-le 32 (drop (v .slot .value) (sourceOf s u w)) k)
+
+-- ---- the entry of a record with no link is short
+record-short : {s u : List ℕ} {w : ℕ} → Stands s u w → length (recordOf s u w .key) ≤ 256
+record-short v = rw (word-record (v .held)) (lawful-length (keyOf (v .held .slot)) (v .held .lawful))
+
+pub short-fits : {s u : List ℕ} {w : ℕ} (before : List ℕ) (room : ℕ) → Stands s u w → 313 ≤ room → true ≡ leb (entryLength before (recordOf s u w .key) false) room
+short-fits {s} {u} {w} before room v h =
+    let key = recordOf s u w .key in
+    sym (le-leb (entryLength before key false) room (omega (arith, most-number (shared before key), most-number (length key - shared before key), record-short v)))
 
 module _ {s u : List ℕ} {w : ℕ} {keys notes previous keys′ notes′ previous′ : List ℕ} {held held′ : ℕ} {r : Recalled}
     (t : Taken s u w keys notes previous keys′ notes′ previous′ held held′ r) where

@@ -1,38 +1,39 @@
 -- Equal stretches of bytes, and the digest that stands in a register for a page of it.
-use Prim.Native.Nat.{ℕ, _-_, _≤_, _<_}
+use Prim.Native.Nat.{ℕ, _+_, _-_, _≤_, _<_}
 use mathlib.Core.Path.{_≡_, sym, ap, _∙_}
-use mathlib.Core.Bool.{Bool, true, false, not}
+use mathlib.Core.Bool.{Bool, false, not, _&&_, and-assoc, and-true}
 use mathlib.Core.List.{List}
 use native.Mathlib.Omega.{arith}
+use native.Mathlib.Numerals.{add-one}
 use borrow.Author.Tests.{eq-eqb, ne-eqb, not-false}
-use lib.ListN.{length, take, drop, getD}
-use lib.Seq.{ext-getD}
+use lib.Dec.{eqb}
+use lib.ListN.{length, take, drop, getD, drop-of-length-le}
+use lib.Seq.{drop-cons}
 use Rattle.fips180.specs.Hash.{sha256}
 use Rattle.tree.specs.Judge.{equal}
-use Rattle.tree.proofs.Tests.{equal-true, equal-refl, equal-cases}
+use Rattle.tree.proofs.Tests.{equal-true, equal-cases}
 use Rattle.index.specs.Word.{pageIn, linkIn, aboveIn, endIn}
 use Rattle.index.specs.Chain.{lastLabel, PageLabelled}
 use Rattle.writer.specs.Label.{DigestAt}
 
 -- ---- equal bytes
--- the first i bytes are the same
-abbrev pub SameBelow : List ℕ → List ℕ → ℕ → Type 0
-SameBelow a b i = (k : ℕ) → k < i → getD a k 0 ≡ getD b k 0
-
 module _ (a b : List ℕ) where
-  differ : (a ≡ b → ⊥) → false ≡ equal a b
-  differ f = equal-cases a b (λ e q. absurd (f q)) (λ e g. sym e)
-
   pub lengths-differ : (length a ≡ length b → ⊥) → false ≡ equal a b
-  lengths-differ f = differ (λ q. f (ap length q))
+  lengths-differ f = equal-cases a b (λ e q. absurd (f (ap length q))) (λ e g. sym e)
 
-  pub byte-differs : (i : ℕ) → (getD a i 0 ≡ getD b i 0 → ⊥) → false ≡ equal a b
-  byte-differs i f = differ (λ q. f (ap (λ (l : List ℕ). getD l i 0) q))
+  -- a turn of the loop that compares byte i, and its end
+  module _ (same : Bool) (i : ℕ) (e : length a ≡ length b) (u : (same && equal (drop i a) (drop i b)) ≡ equal a b) where
+    pub bytes-compared : i < length a → (same && eqb (getD a i 0) (getD b i 0) && equal (drop (i + 1) a) (drop (i + 1) b)) ≡ equal a b
+    unfolding equal
+    bytes-compared h =
+        let l : i < length b = omega arith in
+        rw (add-one, and-assoc) (rw (drop-cons a i 0 h, drop-cons b i 0 l) at u)
 
-  pub all-equal : (i : ℕ) → length a ≡ length b → length a ≤ i → SameBelow a b i → true ≡ equal a b
-  all-equal i e h f =
-      let q : a ≡ b = ext-getD 0 a b e (λ k l. f k (omega arith)) in
-      sym (rw q (equal-refl b))
+    pub bytes-end : length a ≤ i → same ≡ equal a b
+    unfolding equal
+    bytes-end h =
+        let l : length b ≤ i = omega arith in
+        sym (and-true same) ∙ rw (drop-of-length-le a h, drop-of-length-le b l) at u
 
 -- ---- the place of a label
 pub label-first : (w r : ℕ) → aboveIn w ≡ 0 → r ≡ linkIn w → r ≡ lastLabel w

@@ -7,4 +7,5 @@ pub mod Turns
 pub mod Labels
 pub mod Gaps
 pub mod Sites
+pub mod Leaves
 pub mod Whole

@@ -11,7 +11,7 @@ use Rattle.page.specs.Front.{numberLength, linkIf, gapLength, entryLength, entr
 use Rattle.page.proofs.Sizes.{length-entry, length-page-start, length-page-end}
 use Rattle.tree.specs.Tree.{Placed, gapOf, build}
 use Rattle.tree.specs.Record.{Record, spelt, speltUnder}
-use Rattle.tree.specs.Table.{linkOf, bytesOfPage, digestOf}
+use Rattle.tree.specs.Table.{linkOf, rawPage, bytesOfPage, digestOf}
 use Rattle.row.specs.Row.{layerIn, Stands}
 use Rattle.row.specs.declared.recall.Recalled.{Recalled}
 use Rattle.writer.specs.Build.{recordIn, span, gapFor, pageAt}
@@ -43,7 +43,36 @@ module _ (n : ℕ) (f : ℕ → Placed Record) (i m : ℕ) where
   end-size : length (pageEndBytes (linkTo (gapFor n (span f i m)))) ≡ 2 + gapLength (hasPage n m)
   end-size = rw (link-is n f i m) (length-page-end (hasPage n m) (someDigest n (span f i m)) (some-length n (span f i m)))
 
--- ---- the entries before the i-th record are counted
+-- ---- the entries before the i-th record are counted, and not measured
+pub record Counted (s u row : List ℕ) (n first hi count i : ℕ) : Type 0 where
+  pub before : List ℕ
+  pub number : count + countOf before (entriesAt n (recordIn s u row) i hi) ≡ countOf [] (entriesAt n (recordIn s u row) first hi)
+
+pub counted-none : (s u row : List ℕ) (n first hi : ℕ) → Counted s u row n first hi 0 first
+counted-none s u row n first hi = record { before = []; number = omega arith }
+
+module _ {s u row : List ℕ} {n first hi count i : ℕ} (m : Counted s u row n first hi count i) where
+  pub counted-more : (next : ℕ) → i < hi → layerIn (getD row i 0) ≡ n → Run row n (i + 1) hi next → Counted s u row n first hi (count + 1) next
+  counted-more next h e w = record {
+    before = recordIn s u row i .item .key;
+    number =
+        omega (
+          arith,
+          m .number,
+          count-turn n (recordIn s u row) (m .before) i hi next h (record-layer s u row i ∙ e) (cuts s u row n (i + 1) hi next w),
+        );
+  }
+
+  pub counted-all : (lo : ℕ) → Run row n lo hi first → hi ≤ i → count ≡ length (rawPage (spelt (pageAt s u row lo hi n)) .entries)
+  counted-all lo w h =
+      omega (
+        arith,
+        m .number,
+        no-count n (recordIn s u row) (m .before) i hi h,
+        count-is n (recordIn s u row) lo hi first (cuts s u row n lo hi first w),
+      )
+
+-- ---- the entries before the i-th record are counted and measured
 pub record Measured (s u row : List ℕ) (n first hi : ℕ) (keys notes previous : List ℕ) (held count size i : ℕ) : Type 0 where
   pub holding : Holding s u keys notes previous held
   pub more : first ≤ i

@@ -1,7 +1,7 @@
 -- The facts at each place of the code that writes a page, and what follows from them.
 use Prim.Native.Nat.{ℕ, _+_, _-_, _≤_, _<_}
 use mathlib.Core.Path.{_≡_, refl, sym, ap, _∙_}
-use mathlib.Core.Bool.{true, false, not}
+use mathlib.Core.Bool.{Bool, true, false, not}
 use mathlib.Core.List.{List, [], _++_}
 use native.Mathlib.Omega.{arith}
 use lib.ListN.{length, take, drop, getD, replicate, length-append}
@@ -46,6 +46,18 @@ module _ {s u row keys notes : List ℕ} {lo hi : ℕ} (r : Ready s u row keys n
 pub still-holding : {s u keys notes previous keys′ notes′ : List ℕ} {held : ℕ} → Holding s u keys notes previous held → Remembers s u keys′ notes′ → length notes′ ≡ length notes
     → Holding s u keys′ notes′ previous held
 still-holding h m e = record { memory = m; slots = e ∙ h .slots; room = h .room; fits = h .fits }
+
+-- ---- the entry of the i-th record as the code has it
+module _ (s u row before : List ℕ) (i : ℕ) (linked : Bool) (digest : List ℕ) where
+  abbrev pub coded : List ℕ
+  coded = entryBytes (entryAfter before (recordOf s u (getD row i 0) .key) (linkIf linked digest) (recordOf s u (getD row i 0) .val))
+
+  pub coded-is : (g : Gap Record (List ℕ)) → linkIf linked digest ≡ linkTo g
+      → coded ≡ entryBytes (entryAfter before (recordIn s u row i .item .key) (linkTo g) (recordIn s u row i .item .val))
+  coded-is g e = rw (record-item s u row i, e)
+
+  pub coded-length : length digest ≡ 32 → Stands s u (getD row i 0) → length coded ≡ entryLength before (recordOf s u (getD row i 0) .key) linked
+  coded-length h v = length-entry before (recordOf s u (getD row i 0) .key) linked digest (recordOf s u (getD row i 0) .val) h (val-length v)
 
 -- ---- after the gap before the first entry is written
 pub record Begun (s u row : List ℕ) (lo hi n : ℕ) (o : List ℕ) (z : Size) (first : ℕ) (ys : List ℕ) (w : Below) : Type 0 where
@@ -188,21 +200,16 @@ module _ {s u row : List ℕ} {lo hi n own first tail₀ : ℕ} {x keys notes ou
     tail-more = omega (arith, child-done .size, gap-fits (c .gap) fine, lent-length tail out, c .going .fits, c .going .same)
 
     module _ (v : Stands s u (getD row i 0)) where
-      -- the entry as the code has it
-      abbrev coded : List ℕ
-      coded = entryBytes (entryAfter (take held previous) (recordOf s u (getD row i 0) .key) (linkIf (w .linked) (w .digest)) (recordOf s u (getD row i 0) .val))
+      abbrev coded-i : List ℕ
+      coded-i = coded s u row (take held previous) i (w .linked) (w .digest)
 
-      same : coded ≡ entryBytes (entryAfter (take held previous) (f i .item .key) (linkTo gap-i) (f i .item .val))
-      same = rw (record-item s u row i, child-done .link)
-
-      coded-length : length coded ≡ entryLength (take held previous) (recordOf s u (getD row i 0) .key) (w .linked)
-      coded-length =
-          length-entry (take held previous) (recordOf s u (getD row i 0) .key) (w .linked) (w .digest) (recordOf s u (getD row i 0) .val) (child-done .whole) (val-length v)
+      same : coded-i ≡ entryBytes (entryAfter (take held previous) (f i .item .key) (linkTo gap-i) (f i .item .val))
+      same = coded-is s u row (take held previous) i (w .linked) (w .digest) gap-i (child-done .link)
 
       pub coded-room : entryLength (take held previous) (recordOf s u (getD row i 0) .key) (w .linked) ≤ length (lent at (back tail out ys))
-      coded-room = omega (arith, coded-length, ap length same, entry-room (c .going .turn) (c .test) layer-is parted-i (c .whole) ys (child-done .wrote))
+      coded-room = omega (arith, coded-length s u row (take held previous) i (w .linked) (w .digest) (child-done .whole) v, ap length same, entry-room (c .going .turn) (c .test) layer-is parted-i (c .whole) ys (child-done .wrote))
 
-      coded-own : at + length coded ≤ own
+      coded-own : at + length coded-i ≤ own
       coded-own = omega (arith, ap length same, entry-own (c .going .turn) (c .test) layer-is parted-i (c .whole))
 
       module _ {keys′ notes′ previous′ zs : List ℕ} {m : Added}
@@ -224,7 +231,7 @@ module _ {s u row : List ℕ} {lo hi n own first tail₀ : ℕ} {x keys notes ou
           here = c .run .stop;
           turn =
               turn-by (omega (arith, d .size, ap length same)) (omega (arith, child-done .size)) (d .key ∙ ap (λ (y : Record). y .key) (sym (record-item s u row i)))
-              (next-turn (c .going .turn) (c .test) layer-is parted-i (c .whole) ys (child-done .wrote) zs coded same (d .wrote));
+              (next-turn (c .going .turn) (c .test) layer-is parted-i (c .whole) ys (child-done .wrote) zs coded-i same (d .wrote));
         }
 
 -- ---- after the loop

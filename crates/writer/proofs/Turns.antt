@@ -32,16 +32,63 @@ back-length at o ys h e =
 abbrev pub fromStart : Entries Record (List ℕ) → List ℕ
 fromStart es = pageStartBytes (countOf [] es) ++ bytesOf [] es
 
--- ---- the state of the output: A, what is written of the page; M, the rest of its place; T, the pages below
-pub record Turn (f : ℕ → Placed Record) (n first hi own : ℕ) (left : Gap Record (List ℕ)) (o out : List ℕ) (at tail i : ℕ) (before : List ℕ) : Type 0 where
+-- ---- what is written of a page: A, its bytes to before the i-th record; the rest of the output is behind it
+pub record Laid (f : ℕ → Placed Record) (n first hi : ℕ) (out rest : List ℕ) (at i : ℕ) (before : List ℕ) : Type 0 where
   pub A : List ℕ
+  pub is : out ≡ A ++ rest
+  pub lenA : length A ≡ at
+  pub written : A ++ bytesOf before (entriesAt n f i hi) ≡ fromStart (entriesAt n f first hi)
+
+nil-end : (a b r : List ℕ) → b ≡ [] → a ++ b ≡ r → a ≡ r
+nil-end a b r e q = sym (append-nil a) ∙ ap (λ (l : List ℕ). a ++ l) (sym e) ∙ q
+
+module _ {f : ℕ → Placed Record} {n first hi : ℕ} {out rest : List ℕ} {at i : ℕ} {before : List ℕ} (l : Laid f n first hi out rest at i before) where
+  pub laid-lent : lent at out ≡ rest
+  laid-lent = lent-is out (l .A) rest at (l .is) (l .lenA)
+
+  pub laid-back : (zs : List ℕ) → back at out zs ≡ l .A ++ zs
+  laid-back = back-is out (l .A) rest at (l .is) (l .lenA)
+
+  pub laid-length : at + length (bytesOf before (entriesAt n f i hi)) ≡ length (fromStart (entriesAt n f first hi))
+  laid-length = rw (← l .lenA) (sym (length-append (l .A) (bytesOf before (entriesAt n f i hi))) ∙ ap length (l .written))
+
+  pub laid-all : hi ≤ i → l .A ≡ fromStart (entriesAt n f first hi)
+  laid-all h = nil-end (l .A) (bytesOf before (entriesAt n f i hi)) (fromStart (entriesAt n f first hi)) (no-bytes n f before i hi h) (l .written)
+
+  -- one more entry
+  module _ {next : ℕ} (h : i < hi) (e : f i .layer ≡ n) (c : Cuts f n (i + 1) hi next) where
+    abbrev entry-bytes : List ℕ
+    entry-bytes = entryBytes (entryAfter before (f i .item .key) (linkTo (gapFor n (span f (i + 1) (next - (i + 1))))) (f i .item .val))
+
+    pub laid-least : at + length entry-bytes ≤ length (fromStart (entriesAt n f first hi))
+    laid-least =
+        omega (
+          arith,
+          laid-length,
+          ap length (bytes-turn n f before i hi next h e c),
+          length-append entry-bytes (bytesOf (f i .item .key) (entriesAt n f next hi)),
+        )
+
+    pub laid-more : (zs b rest′ : List ℕ) → b ≡ entry-bytes → zs ≡ front b (lent at out) → drop (length entry-bytes) rest ≡ rest′
+        → Laid f n first hi (back at out zs) rest′ (at + length entry-bytes) next (f i .item .key)
+    laid-more zs b rest′ eb ez er = record {
+      A = l .A ++ entry-bytes;
+      is = laid-back zs ∙ rw (ez, eb, laid-lent, er) (sym (append-assoc (l .A) entry-bytes rest′));
+      lenA = length-append (l .A) entry-bytes ∙ rw (l .lenA);
+      written = append-assoc (l .A) entry-bytes (bytesOf (f i .item .key) (entriesAt n f next hi)) ∙ rw (← bytes-turn n f before i hi next h e c) (l .written);
+    }
+
+pub laid-by : {f : ℕ → Placed Record} {n first hi : ℕ} {out rest rest′ : List ℕ} {at at′ i : ℕ} {before before′ : List ℕ}
+    → rest′ ≡ rest → at′ ≡ at → before′ ≡ before → Laid f n first hi out rest at i before → Laid f n first hi out rest′ at′ i before′
+laid-by a b c l = rw (a, b, c) l
+
+-- ---- the state of the output with pages below: M, the rest of the page's place; T, the pages below
+pub record Turn (f : ℕ → Placed Record) (n first hi own : ℕ) (left : Gap Record (List ℕ)) (o out : List ℕ) (at tail i : ℕ) (before : List ℕ) : Type 0 where
   pub M : List ℕ
   pub T : List ℕ
-  pub is : out ≡ A ++ (M ++ (T ++ drop tail o))
-  pub lenA : length A ≡ at
+  pub laid : Laid f n first hi out (M ++ (T ++ drop tail o)) at i before
   pub lenM : at + length M ≡ own
   pub lenT : own + length T ≡ tail
-  pub written : A ++ bytesOf before (entriesAt n f i hi) ≡ fromStart (entriesAt n f first hi)
   pub below : T ++ tablesOf before (entriesAt n f i hi) ≡ tableIn left ++ tablesOf [] (entriesAt n f first hi)
 
 length3 : (a m t : List ℕ) (x y z : ℕ) → length a ≡ x → x + length m ≡ y → y + length t ≡ z → length (a ++ (m ++ t)) ≡ z
@@ -80,14 +127,11 @@ module _ (f : ℕ → Placed Record) (n first hi own count tail at : ℕ) (left 
 
   pub first-turn : Turn f n first hi own left x x at tail first []
   first-turn = record {
-    A = pageStartBytes count;
     M = drop at (take own o);
     T = tableIn left;
-    is = first-is ∙ rw same-behind;
-    lenA = eh;
+    laid = record { A = pageStartBytes count; is = first-is ∙ rw same-behind; lenA = eh; written = rw ec };
     lenM = len-m;
     lenT = sym et;
-    written = rw ec;
     below = refl;
   }
 
@@ -102,18 +146,12 @@ module _ {f : ℕ → Placed Record} {n first hi own at tail i next : ℕ} {left
   abbrev bytes : List ℕ
   bytes = entryBytes (entryAfter before (f i .item .key) (linkTo (gapFor n (span f (i + 1) (next - (i + 1))))) (f i .item .val))
 
-  bytes-at : length (bytesOf before (entriesAt n f i hi)) ≡ length bytes + length (bytesOf (f i .item .key) (entriesAt n f next hi))
-  bytes-at = ap length (bytes-turn n f before i hi next h e c) ∙ length-append bytes (bytesOf (f i .item .key) (entriesAt n f next hi))
-
   tables-at : length (tablesOf before (entriesAt n f i hi)) ≡ length (tableIn gap) + length (tablesOf (f i .item .key) (entriesAt n f next hi))
   tables-at = ap length (tables-turn n f before i hi next h e c) ∙ length-append (tableIn gap) (tablesOf (f i .item .key) (entriesAt n f next hi))
 
-  written-length : at + length (bytesOf before (entriesAt n f i hi)) ≡ length (fromStart (entriesAt n f first hi))
-  written-length = rw (← t .lenA) (sym (length-append (t .A) (bytesOf before (entriesAt n f i hi))) ∙ ap length (t .written))
-
   -- the entry has its place
   entry-fits : length bytes ≤ length (t .M)
-  entry-fits = omega (arith, bytes-at, written-length, t .lenM, whole)
+  entry-fits = omega (arith, laid-least (t .laid) h e c, t .lenM, whole)
 
   pub entry-own : at + length bytes ≤ own
   entry-own = omega (arith, entry-fits, t .lenM)
@@ -125,55 +163,50 @@ module _ {f : ℕ → Placed Record} {n first hi own at tail i next : ℕ} {left
   pub below-more : tail + length (tableIn gap) ≤ own + length (tableIn left ++ tablesOf [] (entriesAt n f first hi))
   below-more = omega (arith, tables-at, below-length, t .lenT)
 
-  out-is : out ≡ (t .A ++ (t .M ++ t .T)) ++ drop tail o
-  out-is = t .is ∙ assoc3 (t .A) (t .M) (t .T) (drop tail o)
+  abbrev A : List ℕ
+  A = t .laid .A
 
-  three : length (t .A ++ (t .M ++ t .T)) ≡ tail
-  three = length3 (t .A) (t .M) (t .T) at own tail (t .lenA) (t .lenM) (t .lenT)
+  out-is : out ≡ (A ++ (t .M ++ t .T)) ++ drop tail o
+  out-is = t .laid .is ∙ assoc3 A (t .M) (t .T) (drop tail o)
+
+  three : length (A ++ (t .M ++ t .T)) ≡ tail
+  three = length3 A (t .M) (t .T) at own tail (t .laid .lenA) (t .lenM) (t .lenT)
 
   module _ (ys : List ℕ) (ey : ys ≡ front (tableIn gap) (lent tail out)) where
     ys-is : ys ≡ tableIn gap ++ drop (tail + length (tableIn gap)) o
-    ys-is = ey ∙ rw (lent-is out (t .A ++ (t .M ++ t .T)) (drop tail o) tail out-is three, drop-drop (length (tableIn gap)) tail o)
+    ys-is = ey ∙ rw (lent-is out (A ++ (t .M ++ t .T)) (drop tail o) tail out-is three, drop-drop (length (tableIn gap)) tail o)
 
     behind : List ℕ
     behind = t .T ++ (tableIn gap ++ drop (tail + length (tableIn gap)) o)
 
-    child-is : back tail out ys ≡ t .A ++ (t .M ++ behind)
+    child-is : back tail out ys ≡ A ++ (t .M ++ behind)
     unfolding behind
-    child-is = back-is out (t .A ++ (t .M ++ t .T)) (drop tail o) tail out-is three ys ∙ sym (assoc3 (t .A) (t .M) (t .T) ys) ∙ rw ys-is
+    child-is = back-is out (A ++ (t .M ++ t .T)) (drop tail o) tail out-is three ys ∙ sym (assoc3 A (t .M) (t .T) ys) ∙ rw ys-is
 
-    entry-lent : lent at (back tail out ys) ≡ t .M ++ behind
-    entry-lent = lent-is (back tail out ys) (t .A) (t .M ++ behind) at child-is (t .lenA)
+    child-laid : Laid f n first hi (back tail out ys) (t .M ++ behind) at i before
+    child-laid = record { A = A; is = child-is; lenA = t .laid .lenA; written = t .laid .written }
 
     pub entry-room : length bytes ≤ length (lent at (back tail out ys))
-    entry-room = rw entry-lent (omega (arith, length-append (t .M) behind, entry-fits))
+    entry-room = rw (laid-lent child-laid) (omega (arith, length-append (t .M) behind, entry-fits))
 
-    module _ (zs b : List ℕ) (eb : b ≡ bytes) (ez : zs ≡ front b (lent at (back tail out ys))) where
-      zs-is : zs ≡ bytes ++ (drop (length bytes) (t .M) ++ behind)
-      zs-is = ez ∙ rw (eb, entry-lent, drop-append-le (length bytes) (t .M) behind entry-fits)
+    -- the rest behind the entry
+    rest-is : drop (length bytes) (t .M ++ behind) ≡ drop (length bytes) (t .M) ++ ((t .T ++ tableIn gap) ++ drop (tail + length (tableIn gap)) o)
+    unfolding behind
+    rest-is = drop-append-le (length bytes) (t .M) behind entry-fits ∙ rw (append-assoc (t .T) (tableIn gap) (drop (tail + length (tableIn gap)) o))
 
-      entry-is : back at (back tail out ys) zs ≡ (t .A ++ bytes) ++ (drop (length bytes) (t .M) ++ ((t .T ++ tableIn gap) ++ drop (tail + length (tableIn gap)) o))
-      unfolding behind
-      entry-is = back-is (back tail out ys) (t .A) (t .M ++ behind) at child-is (t .lenA) zs ∙ rw zs-is (simp append-assoc)
-
-      pub next-turn : Turn f n first hi own left o (back at (back tail out ys) zs) (at + length bytes) (tail + length (tableIn gap)) next (f i .item .key)
-      next-turn = record {
-        A = t .A ++ bytes;
-        M = drop (length bytes) (t .M);
-        T = t .T ++ tableIn gap;
-        is = entry-is;
-        lenA = length-append (t .A) bytes ∙ rw (t .lenA);
-        lenM = omega (arith, length-drop (length bytes) (t .M), entry-fits, t .lenM);
-        lenT = omega (arith, length-append (t .T) (tableIn gap), t .lenT);
-        written = append-assoc (t .A) bytes (bytesOf (f i .item .key) (entriesAt n f next hi)) ∙ rw (← bytes-turn n f before i hi next h e c) (t .written);
-        below = append-assoc (t .T) (tableIn gap) (tablesOf (f i .item .key) (entriesAt n f next hi)) ∙ rw (← tables-turn n f before i hi next h e c) (t .below);
-      }
+    pub next-turn : (zs b : List ℕ) → b ≡ bytes → zs ≡ front b (lent at (back tail out ys))
+        → Turn f n first hi own left o (back at (back tail out ys) zs) (at + length bytes) (tail + length (tableIn gap)) next (f i .item .key)
+    next-turn zs b eb ez = record {
+      M = drop (length bytes) (t .M);
+      T = t .T ++ tableIn gap;
+      laid = laid-more child-laid h e c zs b (drop (length bytes) (t .M) ++ ((t .T ++ tableIn gap) ++ drop (tail + length (tableIn gap)) o)) eb ez rest-is;
+      lenM = omega (arith, length-drop (length bytes) (t .M), entry-fits, t .lenM);
+      lenT = omega (arith, length-append (t .T) (tableIn gap), t .lenT);
+      below = append-assoc (t .T) (tableIn gap) (tablesOf (f i .item .key) (entriesAt n f next hi)) ∙ rw (← tables-turn n f before i hi next h e c) (t .below);
+    }
 
 -- ---- the end
-nil-end : (a b r : List ℕ) → b ≡ [] → a ++ b ≡ r → a ≡ r
-nil-end a b r e q = sym (append-nil a) ∙ ap (λ (l : List ℕ). a ++ l) (sym e) ∙ q
-
-drop-more : (a b : ℕ) (o q : List ℕ) → a ≤ b → drop a o ≡ drop a q → drop b o ≡ drop b q
+pub drop-more : (a b : ℕ) (o q : List ℕ) → a ≤ b → drop a o ≡ drop a q → drop b o ≡ drop b q
 drop-more a b o q h e =
     let z : a + (b - a) ≡ b = omega arith in
     rw (← z, ← drop-drop (b - a) a o, ← drop-drop (b - a) a q, e)
@@ -188,8 +221,8 @@ module _ {f : ℕ → Placed Record} {n lo hi first own at tail i : ℕ} (c : Cu
   abbrev foot : List ℕ
   foot = pageEndBytes (linkIf linked digest)
 
-  A-is : t .A ≡ fromStart (entriesAt n f first hi)
-  A-is = nil-end (t .A) (bytesOf before (entriesAt n f i hi)) (fromStart (entriesAt n f first hi)) (no-bytes n f before i hi h) (t .written)
+  A-is : t .laid .A ≡ fromStart (entriesAt n f first hi)
+  A-is = laid-all (t .laid) h
 
   T-is : t .T ≡ tableIn (gapFor n (span f lo (first - lo))) ++ tablesOf [] (entriesAt n f first hi)
   T-is =
@@ -197,24 +230,21 @@ module _ {f : ℕ → Placed Record} {n lo hi first own at tail i : ℕ} (c : Cu
       (no-tables n f before i hi h) (t .below)
 
   M-is : length (t .M) ≡ length foot
-  M-is = omega (arith, ap (λ (g : Option (List ℕ)). length (pageEndBytes g)) el, t .lenM, t .lenA, ap length A-is, page-length n f lo hi first c, whole)
-
-  foot-lent : lent at out ≡ t .M ++ (t .T ++ drop tail o)
-  foot-lent = lent-is out (t .A) (t .M ++ (t .T ++ drop tail o)) at (t .is) (t .lenA)
+  M-is = omega (arith, ap (λ (g : Option (List ℕ)). length (pageEndBytes g)) el, t .lenM, t .laid .lenA, ap length A-is, page-length n f lo hi first c, whole)
 
   pub foot-room : 2 + gapLength linked ≤ length (lent at out)
-  foot-room = rw foot-lent (omega (arith, length-append (t .M) (t .T ++ drop tail o), M-is, length-page-end linked digest hd))
+  foot-room = rw (laid-lent (t .laid)) (omega (arith, length-append (t .M) (t .T ++ drop tail o), M-is, length-page-end linked digest hd))
 
   total : tail ≡ length (table (spelt tree))
   total = omega (arith, table-length n f lo hi first c, ap length T-is, t .lenT, whole)
 
   module _ (o₀ zs : List ℕ) (ez : zs ≡ front foot (lent at out)) (tail₀ : ℕ) (more : tail₀ ≤ tail) (same : drop tail₀ o ≡ drop tail₀ o₀) where
     last-zs : zs ≡ foot ++ (t .T ++ drop tail o)
-    last-zs = ez ∙ rw (foot-lent, drop-at (t .M) (t .T ++ drop tail o) (length foot) M-is)
+    last-zs = ez ∙ rw (laid-lent (t .laid), drop-at (t .M) (t .T ++ drop tail o) (length foot) M-is)
 
     last-is : back at out zs ≡ bytesOfPage (spelt tree) ++ (t .T ++ drop tail o)
     last-is =
-        back-is out (t .A) (t .M ++ (t .T ++ drop tail o)) at (t .is) (t .lenA) zs
+        laid-back (t .laid) zs
         ∙ rw (last-zs, A-is, bytes-are n f lo hi first c, ← el)
         (sym (append-assoc (fromStart (entriesAt n f first hi)) foot (t .T ++ drop tail o)))
 

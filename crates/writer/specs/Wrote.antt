@@ -1,11 +1,12 @@
 -- What the writer says.
 use Prim.Native.Nat.{ℕ, zero, suc, _≤_, _<_}
 use mathlib.Core.Path.{_≡_}
-use mathlib.Core.Bool.{Bool, true, false}
+use mathlib.Core.Bool.{Bool, true, false, cond}
 use mathlib.Core.Option.{Option}
 use mathlib.Core.List.{List}
 use lib.ListN.{length, take, getD}
 use lib.Dec.{leb}
+use Rattle.fips180.specs.Hash.{sha256, zeros}
 use Rattle.page.specs.Page.{entryBytes}
 use Rattle.page.specs.Front.{front, linkIf, entryAfter}
 use Rattle.tree.specs.Tree.{Page, Gap}
@@ -47,6 +48,13 @@ GapOutcome g before after r false = Unit {0}
 pub record GapWritten (g : Gap Record (List ℕ)) (before after : List ℕ) (r : Below) : Type 0 where
   pub room : r .room ≡ leb (length (tableUnder (speltUnder g))) (length before)
   pub done : GapOutcome g before after r (r .room)
+
+-- What a gap has where a page was written into it: the digest of that page's bytes, or that there was no room.
+unfoldable pub belowOf : Wrote → List ℕ → Below
+belowOf w out =
+    cond (w .room)
+    (record { room = true; linked = true; len = w .len; digest = sha256 (take (w .own) out) })
+    (record { room = false; linked = false; len = 0; digest = zeros 32 })
 
 -- What the writer asks for the records lo..hi of a row: the words stand for records, and the memory holds the keys that its notes say.
 pub record Ready (s u row keys notes : List ℕ) (lo hi : ℕ) : Type 0 where

@@ -60,21 +60,20 @@ fn find_chain(chains: &[u64], count: usize, page: usize) -> usize
     count
 }
 
-// Whether two stretches of bytes are equal.
+// Whether two stretches of bytes are equal. The loop does not stop at a difference, so that it can compare many bytes at once.
 fn same_bytes(a: &[u8], b: &[u8]) -> bool
     ensures { λ r. ⌜ r ≡ equal (now (a .entry)) (now (b .entry)) ⌝ }
 {
     if a.len() != b.len() {
         return false;
     }
+    let mut same = true;
     let mut i = 0;
     while i < a.len() {
-        if a[i] != b[i] {
-            return false;
-        }
+        same = same & (a[i] == b[i]);
         i += 1;
     }
-    true
+    same
 }
 
 // Where in s the digest of these bytes stands, if they are those of the page with entries at this place; 0 if they are not, or no link leads

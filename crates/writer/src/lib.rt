@@ -5,7 +5,7 @@ pub mod output; // outputs
 
 use crate::output::clear;
 use crate::pages::top_layer;
-use crate::pages::write_page;
+use crate::pages::write_pages;
 use answer::Answer;
 use answer::Refusal;
 ghost use mathlib.Core.Path.{_≡_};
@@ -48,7 +48,7 @@ pub fn write_table(
     let mut notes = [0u64; 128];
     let top = top_layer(row, n);
     let room = used(out.len());
-    let w = write_page(
+    let w = write_pages(
         s,
         u,
         first_chains,

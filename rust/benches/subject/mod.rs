@@ -3,6 +3,7 @@
 // Each bench is compiled with its own copy of this module and may not use all of it.
 #![allow(dead_code)]
 
+use crate::common::calls::mijdegen_digest;
 use crate::common::sets::{set, Kind};
 use independent::Set;
 use std::hint::black_box;
@@ -15,6 +16,22 @@ pub struct Subject {
     pub register: Vec<u8>,
     /// Where each page ends in the register.
     page_ends: Vec<usize>,
+    /// The keys, one after the other, and where each ends.
+    keys: Vec<u8>,
+    key_ends: Vec<usize>,
+}
+
+/// Calls the library's digest as C does for each of these pieces, which end at these places.
+fn hash_pieces(bytes: &[u8], ends: &[usize]) {
+    let mut digest = [0; 32];
+    let mut start = 0;
+    for end in ends {
+        let piece = black_box(&bytes[start..*end]);
+        // SAFETY: The piece has as many bytes as the library is told, and the digest 32.
+        black_box(unsafe { mijdegen_digest(piece.as_ptr(), piece.len(), digest.as_mut_ptr()) });
+        start = *end;
+    }
+    black_box(digest);
 }
 
 impl Subject {
@@ -43,13 +60,26 @@ impl Subject {
         }
         assert_eq!(mijdegen::check(&register), Ok(set.len()));
         assert_eq!(independent::check(&register), Ok(set.len()));
+        let mut keys = Vec::new();
+        let mut key_ends = Vec::new();
+        for key in set.keys() {
+            keys.extend(key);
+            key_ends.push(keys.len());
+        }
         Subject {
             name,
             kind,
             set,
             register,
             page_ends,
+            keys,
+            key_ends,
         }
+    }
+
+    /// Counts the bytes that are hashed: those of the pages and of the keys.
+    pub fn hashed(&self) -> usize {
+        self.register.len() + self.keys.len()
     }
 
     /// Counts the pages.
@@ -63,26 +93,24 @@ impl Subject {
         self.set.keys().nth(middle).expect("there are records")
     }
 
-    /// The library's own digest over each page and over each key, once each.
+    /// The library's own digest over each page and over each key, once each, in a bare loop.
     pub fn hash_once(&self) {
-        let mut start = 0;
-        for end in &self.page_ends {
-            let page = &self.register[start..*end];
-            black_box(mijdegen::digest(black_box(page))).expect("a page is short");
-            start = *end;
-        }
+        hash_pieces(&self.register, &self.page_ends);
         self.hash_keys();
     }
 
-    /// The library's own digest over each key, once each.
+    /// The library's own digest over each key, once each, in a bare loop.
     pub fn hash_keys(&self) {
-        self.for_each_key(|key| mijdegen::digest(key).expect("a key is short"));
+        hash_pieces(&self.keys, &self.key_ends);
     }
 
-    /// Calls with each key.
+    /// Calls with each key. The keys stand one behind the other, so that memory is no part of the
+    /// time of whichever comes first.
     pub fn for_each_key<T>(&self, call: impl Fn(&[u8]) -> T) {
-        for key in self.set.keys() {
-            black_box(call(black_box(key)));
+        let mut start = 0;
+        for end in &self.key_ends {
+            black_box(call(black_box(&self.keys[start..*end])));
+            start = *end;
         }
     }
 }

@@ -17,8 +17,9 @@ enum-known-st c = search needs
 settle-requires : tie.Need-settle-requires
 settle-requires c κs =
     let a = c .before .before .before .before .before .before .before .before .before .before .before .before .before .before .before .before .args in
+    let pre = c .before .before .before .before .before .before .before .before .before .before .before .before .before .before .before .before .pre in
     let w = c .before .before .before .before .before .before .before .before .before .walk in
-    (omega (arith, c .before .before .before .before .before .before .before .before .before .before .before .before .if1), omega (arith, w .kept, c .before .before .before .before .before .before .before .before .before .before .before .before .before .before .before .before .pre), omega (arith, w .kept, c .before .before .before .before .before .before .before .before .before .before .before .before .before .before .before .before .pre), walked-whole (a .s .now) (w .last .1 .0) (w .last .1 .1 .0) (w .result) (c .before .before .before .st .given .0 .0) (w .ensures) (c .before .before .before .st .given .1))
+    (omega (arith, c .before .before .before .before .before .before .before .before .before .before .before .before .if1), λ k few long. omega (arith, w .kept, pre .0 k few long), λ k few long. omega (arith, w .kept, pre .1 k few long), walked-whole (a .s .now) (w .last .1 .0) (w .last .1 .1 .0) (w .result) (c .before .before .before .st .given .0 .0) (w .ensures) (c .before .before .before .st .given .1))
 
 enum-known-stop : tie.Need-enum-known-stop
 enum-known-stop c = search needs

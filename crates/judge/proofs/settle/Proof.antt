@@ -1,6 +1,6 @@
 use native.Mathlib.Omega.{arith}
 use Rattle.page.proofs.Tools.{bytes-of}
-use Rattle.judge.proofs.Verdicts.{chains-few, row-chained, bytes-follow, too-many-records, wrong-prefix, unlawful-key, not-rising, not-filled, walked-depths, not-level, wrong-digest, accepted-all}
+use Rattle.judge.proofs.Verdicts.{row-room, row-chained, bytes-follow, too-many-records, wrong-prefix, unlawful-key, not-rising, not-filled, walked-depths, not-level, wrong-digest, accepted-all}
 use borrow.Author.Needs.{needs}
 use Rattle.judge.proofs.settle.Statement.{statement}
 use Rattle.judge.proofs.settle.Tie as tie
@@ -24,7 +24,9 @@ returns-2 c =
 prefixes-right-requires : tie.Need-prefixes-right-requires
 prefixes-right-requires c κs =
     let start = c .before .before .before .before .before .before .before in
-    omega (arith, chains-few (start .pre .3), start .pre, c .if2)
+    let pre = start .pre in
+    let bytes = bytes-of (start .args .s .now) (λ i h. omega (arith, c .before .before .before .before .before .before .shared-slice-known .given i)) in
+    row-room bytes (pre .3) (omega (arith, c .if2)) (pre .2)
 
 returns-3 : tie.Need-returns-3
 returns-3 c =
@@ -81,7 +83,9 @@ returns-7 c =
 digests-hold-requires : tie.Need-digests-hold-requires
 digests-hold-requires c κs =
     let start = c .before .before .before .before .before .before .before .before .before .before .before .before .before .before .before .before .before .before .before .before in
-    row-chained (start .pre .3) (omega (arith, chains-few (start .pre .3), start .pre, c .before .before .before .before .before .before .before .before .before .before .before .before .before .if2)) (omega (arith, c .before .before .before .before .before .before .before .before .before .before .before .before .before .if2))
+    let pre = start .pre in
+    let bytes = bytes-of (start .args .s .now) (λ i h. omega (arith, c .before .before .before .before .before .before .before .before .before .before .before .before .before .before .before .before .before .before .before .shared-slice-known .given i)) in
+    row-chained (pre .3) (row-room bytes (pre .3) (omega (arith, c .before .before .before .before .before .before .before .before .before .before .before .before .before .if2)) (pre .2)) (omega (arith, c .before .before .before .before .before .before .before .before .before .before .before .before .before .if2))
 
 same-length-2 : tie.Need-same-length-2
 same-length-2 c = search needs
@@ -107,7 +111,7 @@ returns-9 c =
     let bytes = bytes-of (a .s .now) (λ i h. omega (arith, c .before .before .before .before .before .before .before .before .before .before .before .before .before .before .before .before .before .before .before .before .before .shared-slice-known .given i)) in
     let y = c .before .before .before .before .before .note-layers in
     let z = c .before .digests-hold in
-    accepted-all (a .s .now) (a .index .now) (a .row .now) (a .st) bytes (pre .0) (pre .3) (omega (arith, c .before .before .before .before .before .before .before .before .before .before .before .before .before .before .before .before .before .if1)) (omega (arith, c .before .before .before .before .before .before .before .before .before .before .before .before .before .before .before .if2)) (c .before .before .before .before .before .before .before .before .before .before .before .before .before .before .prefixes-right .result) (c .before .before .before .before .before .before .before .before .before .before .before .before .before .before .prefixes-right .ensures) (c .before .before .before .before .before .before .before .before .before .before .before .before .before .if3 .left) (c .before .before .before .before .before .before .before .before .before .before .before .if4 .left) (c .before .before .before .before .before .before .before .before .before .if5 .left) (c .before .before .before .before .before .before .before .if6 .left) (pre .1) (y .result) (y .last .1 .0) (y .ensures) (c .before .before .if7 .left) (pre .2) (z .result) (z .ensures) (c .if8 .left)
+    accepted-all (a .s .now) (a .index .now) (a .row .now) (a .st) bytes (pre .0) (pre .3) (omega (arith, c .before .before .before .before .before .before .before .before .before .before .before .before .before .before .before .before .before .if1)) (omega (arith, c .before .before .before .before .before .before .before .before .before .before .before .before .before .before .before .if2)) (c .before .before .before .before .before .before .before .before .before .before .before .before .before .before .prefixes-right .result) (c .before .before .before .before .before .before .before .before .before .before .before .before .before .before .prefixes-right .ensures) (c .before .before .before .before .before .before .before .before .before .before .before .before .before .if3 .left) (c .before .before .before .before .before .before .before .before .before .before .before .if4 .left) (c .before .before .before .before .before .before .before .before .before .if5 .left) (c .before .before .before .before .before .before .before .if6 .left) (pre .1) (y .result) (y .last .1 .0) (y .ensures) (c .before .before .if7 .left) (pre .2) (z .result) (z .ensures) (y .kept .1 .0) (c .if8 .left)
 
 pub settle-spec : {M : Type 1} → statement M
 settle-spec =

@@ -1,52 +1,45 @@
 use borrow.Author.Needs.{needs}
-use native.Mathlib.Omega.{arith}
-use Rattle.page.proofs.Tools.{bytes-of}
-use Rattle.register.proofs.Verdicts.{accepted-index, judged-refused, accepted-few, checked, check-refused}
+use Rattle.register.proofs.Verdicts.{index-short, chains-short, index-long, chains-long}
 use Rattle.register.proofs.check.Statement.{statement}
 use Rattle.register.proofs.check.Tie as tie
 
-slice-aggregate-judge : tie.Need-slice-aggregate-judge
-slice-aggregate-judge c = search needs
+slice-aggregate-check-with-rows : tie.Need-slice-aggregate-check-with-rows
+slice-aggregate-check-with-rows c = search needs
 
-slice-aggregate-judge-2 : tie.Need-slice-aggregate-judge-2
-slice-aggregate-judge-2 c = search needs
+slice-aggregate-check-with-rows-2 : tie.Need-slice-aggregate-check-with-rows-2
+slice-aggregate-check-with-rows-2 c = search needs
 
-judge-requires : tie.Need-judge-requires
-judge-requires c κs = search needs
-
-enum-known-count : tie.Need-enum-known-count
-enum-known-count c = search needs
-
-cast-t12 : tie.Need-cast-t12
-cast-t12 c =
-    let j = c .before .before .before .before .before .judge in
-    let s = c .before .before .before .before .before .before .before .before .before .args .register .now in
-    let bytes = bytes-of s (λ i h. omega (arith, c .before .before .before .before .before .before .before .before .shared-slice-known .given i)) in
-    let few = accepted-few bytes (accepted-index s _ _ (j .result) (j .ensures) (c .before .count .given .1)) in
-    omega arith
-
-enum-known-refusal : tie.Need-enum-known-refusal
-enum-known-refusal c = search needs
+check-with-rows-requires : tie.Need-check-with-rows-requires
+check-with-rows-requires c κs =
+    let a = c .before .before .before .before .args in
+    (index-short (a .register .now) _ (c .before .before .if1 .taken) (search needs), chains-short (a .register .now) _ (c .before .before .if1 .taken) (search needs))
 
 returns : tie.Need-returns
-returns c =
-    let j = c .before .before .before .before .before .judge in
-    checked (accepted-index _ _ _ (j .result) (j .ensures) (c .before .count .given .1))
+returns c = search needs
+
+slice-aggregate-check-with-rows-3 : tie.Need-slice-aggregate-check-with-rows-3
+slice-aggregate-check-with-rows-3 c = search needs
+
+slice-aggregate-check-with-rows-4 : tie.Need-slice-aggregate-check-with-rows-4
+slice-aggregate-check-with-rows-4 c = search needs
+
+check-with-rows-requires-2 : tie.Need-check-with-rows-requires-2
+check-with-rows-requires-2 c κs =
+    let a = c .before .before .before .before .args in
+    (index-long (a .register .now) _ (search needs), chains-long (a .register .now) _ (search needs))
 
 returns-2 : tie.Need-returns-2
-returns-2 c =
-    let j = c .before .before .before .before .before .judge in
-    check-refused _ (judged-refused _ _ _ (j .result) (j .ensures) (c .before .refusal .given .1))
+returns-2 c = search needs
 
 pub check-spec : {M : Type 1} → statement M
 check-spec =
     tie.close
     (tie.spec
-    slice-aggregate-judge
-    slice-aggregate-judge-2
-    judge-requires
-    enum-known-count
-    cast-t12
-    enum-known-refusal
+    slice-aggregate-check-with-rows
+    slice-aggregate-check-with-rows-2
+    check-with-rows-requires
     returns
+    slice-aggregate-check-with-rows-3
+    slice-aggregate-check-with-rows-4
+    check-with-rows-requires-2
     returns-2)

@@ -1,72 +1,27 @@
-use native.Mathlib.Omega.{arith}
-use lib.ListN.{length}
-use Rattle.page.proofs.Tools.{bytes-of}
-use Rattle.register.proofs.Verdicts.{accepted-index, accepted-chains, judged-refused, accepted-few}
-use Rattle.register.proofs.Differing.{first-refused, second-refused}
 use borrow.Author.Needs.{needs}
+use Rattle.register.proofs.Verdicts.{index-short, chains-short, index-long, chains-long}
 use Rattle.register.proofs.difference.Statement.{statement}
 use Rattle.register.proofs.difference.Tie as tie
 
-slice-aggregate-judge : tie.Need-slice-aggregate-judge
-slice-aggregate-judge c = search needs
+slice-aggregate-difference-with-rows : tie.Need-slice-aggregate-difference-with-rows
+slice-aggregate-difference-with-rows c = search needs
 
-slice-aggregate-judge-2 : tie.Need-slice-aggregate-judge-2
-slice-aggregate-judge-2 c = search needs
+slice-aggregate-difference-with-rows-2 : tie.Need-slice-aggregate-difference-with-rows-2
+slice-aggregate-difference-with-rows-2 c = search needs
 
-judge-requires : tie.Need-judge-requires
-judge-requires c κs = search needs
+slice-aggregate-difference-with-rows-3 : tie.Need-slice-aggregate-difference-with-rows-3
+slice-aggregate-difference-with-rows-3 c = search needs
 
-enum-known-n : tie.Need-enum-known-n
-enum-known-n c = search needs
+slice-aggregate-difference-with-rows-4 : tie.Need-slice-aggregate-difference-with-rows-4
+slice-aggregate-difference-with-rows-4 c = search needs
 
-slice-aggregate-judge-3 : tie.Need-slice-aggregate-judge-3
-slice-aggregate-judge-3 c = search needs
+slice-aggregate-difference-with-rows-5 : tie.Need-slice-aggregate-difference-with-rows-5
+slice-aggregate-difference-with-rows-5 c = search needs
 
-slice-aggregate-judge-4 : tie.Need-slice-aggregate-judge-4
-slice-aggregate-judge-4 c = search needs
-
-judge-requires-2 : tie.Need-judge-requires-2
-judge-requires-2 c κs = search needs
-
-enum-known-m : tie.Need-enum-known-m
-enum-known-m c = search needs
-
-slice-aggregate-differ : tie.Need-slice-aggregate-differ
-slice-aggregate-differ c = search needs
-
-slice-aggregate-differ-2 : tie.Need-slice-aggregate-differ-2
-slice-aggregate-differ-2 c = search needs
-
-slice-aggregate-differ-3 : tie.Need-slice-aggregate-differ-3
-slice-aggregate-differ-3 c = search needs
-
-slice-aggregate-differ-4 : tie.Need-slice-aggregate-differ-4
-slice-aggregate-differ-4 c = search needs
-
-differ-requires : tie.Need-differ-requires
-differ-requires c κs =
-    let a = c .before .before .before .before .before .before .before .before .before .before .before .before .before .before .before .before .before .before .before .before .before .before .before .before .args in
-    let j = c .before .before .before .before .before .before .before .before .before .before .before .before .before .before .before .before .before .before .judge in
-    let k = c .before .before .before .before .before .before .before .before .before .before .judge2 in
-    let first = accepted-index (a .first .now) _ _ (j .result) (j .ensures) (c .before .before .before .before .before .before .before .before .before .before .before .before .before .before .n .given .1) in
-    let second = accepted-index (a .second .now) _ _ (k .result) (k .ensures) (c .before .before .before .before .before .before .m .given .1) in
-    let few = accepted-few (bytes-of (a .first .now) (λ i h. omega (arith, c .before .before .before .before .before .before .before .before .before .before .before .before .before .before .before .before .before .before .before .before .before .before .before .shared-slice-known .given i))) first in
-    let others = accepted-few (bytes-of (a .second .now) (λ i h. omega (arith, c .before .before .before .before .before .before .before .before .before .before .before .before .before .before .before .before .before .before .before .before .before .before .shared-slice-known2 .given i))) second in
-    let chains = accepted-chains (a .first .now) _ _ (j .result) (j .ensures) (c .before .before .before .before .before .before .before .before .before .before .before .before .before .before .n .given .1) in
-    let other-chains = accepted-chains (a .second .now) _ _ (k .result) (k .ensures) (c .before .before .before .before .before .before .m .given .1) in
-    (first, second, chains, other-chains, omega (arith, j .kept), omega (arith, k .kept), omega (arith, k .kept))
-
-enum-known-refusal : tie.Need-enum-known-refusal
-enum-known-refusal c = search needs
-
-clear-requires : tie.Need-clear-requires
-clear-requires c κs = search needs
-
-enum-known-refusal-2 : tie.Need-enum-known-refusal-2
-enum-known-refusal-2 c = search needs
-
-clear-requires-2 : tie.Need-clear-requires-2
-clear-requires-2 c κs = search needs
+difference-with-rows-requires : tie.Need-difference-with-rows-requires
+difference-with-rows-requires c κs =
+    let a = c .before .before .before .before .before .before .before .before .before .before .before .args in
+    (index-short (a .first .now) _ (c .before .before .before .before .before .before .before .if1 .taken) (search needs), chains-short (a .first .now) _ (c .before .before .before .before .before .before .before .if1 .taken) (search needs), index-short (a .second .now) _ (c .before .before .before .before .before .before .if2 .taken) (search needs), chains-short (a .second .now) _ (c .before .before .before .before .before .before .if2 .taken) (search needs), index-short (a .second .now) _ (c .before .before .before .before .before .before .if2 .taken) (search needs))
 
 same-length : tie.Need-same-length
 same-length c = search needs
@@ -74,50 +29,49 @@ same-length c = search needs
 returns : tie.Need-returns
 returns c = search needs
 
+slice-aggregate-difference-with-rows-6 : tie.Need-slice-aggregate-difference-with-rows-6
+slice-aggregate-difference-with-rows-6 c = search needs
+
+slice-aggregate-difference-with-rows-7 : tie.Need-slice-aggregate-difference-with-rows-7
+slice-aggregate-difference-with-rows-7 c = search needs
+
+slice-aggregate-difference-with-rows-8 : tie.Need-slice-aggregate-difference-with-rows-8
+slice-aggregate-difference-with-rows-8 c = search needs
+
+slice-aggregate-difference-with-rows-9 : tie.Need-slice-aggregate-difference-with-rows-9
+slice-aggregate-difference-with-rows-9 c = search needs
+
+slice-aggregate-difference-with-rows-10 : tie.Need-slice-aggregate-difference-with-rows-10
+slice-aggregate-difference-with-rows-10 c = search needs
+
+difference-with-rows-requires-2 : tie.Need-difference-with-rows-requires-2
+difference-with-rows-requires-2 c κs =
+    let a = c .before .before .before .before .before .before .before .before .before .before .args in
+    (index-long (a .first .now) _ (search needs), chains-long (a .first .now) _ (search needs), index-long (a .second .now) _ (search needs), chains-long (a .second .now) _ (search needs), index-long (a .second .now) _ (search needs))
+
 same-length-2 : tie.Need-same-length-2
 same-length-2 c = search needs
 
 returns-2 : tie.Need-returns-2
-returns-2 c =
-    let a = c .before .before .before .before .before .before .before .before .before .before .before .before .before .before .before .before .before .before .before .before .before .before .before .args in
-    let j = c .before .before .before .before .before .before .before .before .before .before .before .before .before .before .before .before .before .judge in
-    let k = c .before .before .before .before .before .before .before .before .before .judge2 in
-    let first = accepted-index (a .first .now) _ _ (j .result) (j .ensures) (c .before .before .before .before .before .before .before .before .before .before .before .before .before .n .given .1) in
-    second-refused (a .first .now) (a .second .now) (length (a .out .now)) _ _ (c .before .before .clear .ensures) (first .tree) (first .judged) (judged-refused (a .second .now) _ _ (k .result) (k .ensures) (c .before .before .before .before .before .refusal .given .1))
-
-same-length-3 : tie.Need-same-length-3
-same-length-3 c = search needs
-
-returns-3 : tie.Need-returns-3
-returns-3 c =
-    let a = c .before .before .before .before .before .before .before .before .before .before .before .before .before .before .before .args in
-    let j = c .before .before .before .before .before .before .before .before .before .judge in
-    first-refused (a .first .now) (a .second .now) (length (a .out .now)) _ _ (c .before .before .clear2 .ensures) (judged-refused (a .first .now) _ _ (j .result) (j .ensures) (c .before .before .before .before .before .refusal2 .given .1))
+returns-2 c = search needs
 
 pub difference-spec : {M : Type 1} → statement M
 difference-spec =
     tie.close
     (tie.spec
-    slice-aggregate-judge
-    slice-aggregate-judge-2
-    judge-requires
-    enum-known-n
-    slice-aggregate-judge-3
-    slice-aggregate-judge-4
-    judge-requires-2
-    enum-known-m
-    slice-aggregate-differ
-    slice-aggregate-differ-2
-    slice-aggregate-differ-3
-    slice-aggregate-differ-4
-    differ-requires
-    enum-known-refusal
-    clear-requires
-    enum-known-refusal-2
-    clear-requires-2
+    slice-aggregate-difference-with-rows
+    slice-aggregate-difference-with-rows-2
+    slice-aggregate-difference-with-rows-3
+    slice-aggregate-difference-with-rows-4
+    slice-aggregate-difference-with-rows-5
+    difference-with-rows-requires
     same-length
     returns
+    slice-aggregate-difference-with-rows-6
+    slice-aggregate-difference-with-rows-7
+    slice-aggregate-difference-with-rows-8
+    slice-aggregate-difference-with-rows-9
+    slice-aggregate-difference-with-rows-10
+    difference-with-rows-requires-2
     same-length-2
-    returns-2
-    same-length-3
-    returns-3)
+    returns-2)

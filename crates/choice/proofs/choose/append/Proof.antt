@@ -8,7 +8,7 @@ use Rattle.choice.proofs.choose.append.Statement.{statement}
 use Rattle.choice.proofs.choose.append.Tie as tie
 
 abbrev Inv-loop : tie.InvT-loop
-Inv-loop row₀ k rest i₀ row i = (i ≤ length rest) × (k + length rest ≤ most) × (most ≤ length row₀) × (length row ≡ length row₀) × AppendedSoFar row₀ k rest row i
+Inv-loop row₀ k rest i₀ row i = (i ≤ length rest) × (k + length rest ≤ most) × (k + length rest ≤ length row₀) × (length row ≡ length row₀) × AppendedSoFar row₀ k rest row i
 
 abbrev μ-loop : tie.MeasureT-loop
 μ-loop row₀ k rest i₀ row i = length rest - i
@@ -20,7 +20,7 @@ returns : tie.Need-returns Inv-loop μ-loop
 returns c = search needs
 
 loop-holds : tie.Need-loop-holds Inv-loop μ-loop
-loop-holds c = (search needs, search needs, search needs, search needs, search (needs, appended-none))
+loop-holds c = (search needs, search needs, c .before .pre .1 (search needs), search needs, search (needs, appended-none))
 
 mul-row : tie.Need-mul-row Inv-loop μ-loop
 mul-row c = search needs

@@ -58,7 +58,7 @@ part-append-end : tie.Need-part-append-end Inv-loop μ-loop
 part-append-end c = search needs
 
 append-requires : tie.Need-append-requires Inv-loop μ-loop
-append-requires c κs = search needs
+append-requires c κs = (search needs, λ few. search needs)
 
 same-length : tie.Need-same-length Inv-loop μ-loop
 same-length c = search needs
@@ -245,7 +245,7 @@ part-append-end-2 : tie.Need-part-append-end-2 Inv-loop μ-loop
 part-append-end-2 c = search needs
 
 append-requires-2 : tie.Need-append-requires-2 Inv-loop μ-loop
-append-requires-2 c κs = search needs
+append-requires-2 c κs = (search needs, λ few. search needs)
 
 same-length-3 : tie.Need-same-length-3 Inv-loop μ-loop
 same-length-3 c = search needs

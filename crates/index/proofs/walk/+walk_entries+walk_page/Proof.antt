@@ -4,8 +4,7 @@ use native.Mathlib.Omega.{arith}
 use lib.ListN.{length}
 use lib.Dec.{eqb}
 use borrow.Author.Needs.{needs}
-use Rattle.index.proofs.Lengths.{entry-small}
-use Rattle.index.proofs.EntrySteps.{entry-is, page-is, says-is, Onward, onward-start, onward-end, onward-there, onward-record, onward-none, onward-page, onward-stopped}
+use Rattle.index.proofs.EntrySteps.{located-is, page-is, says-is, Onward, onward-start, onward-end, onward-there, onward-record, onward-none, onward-page, onward-stopped}
 use Rattle.index.proofs.PageSteps.{too-deep, deep-end, page-stops, page-none, page-left, left-stopped, page-bare, page-on, page-far, entries-counted, least-of}
 use borrow.Fn.Kinds.{In}
 use borrow.Fn.PlainCycle.{Measures, is, falls, and}
@@ -23,7 +22,7 @@ use Rattle.index.proofs.walk.enter.Reads as enter-reads
 use Rattle.index.proofs.walk.leave.Reads as leave-reads
 use Rattle.index.proofs.walk.take_page.Reads as take-page-reads
 use Rattle.index.proofs.walk.take_record.Reads as take-record-reads
-use Rattle.page.proofs.reading.read_entry.Reads as read-entry-reads
+use Rattle.page.proofs.reading.locate_entry.Reads as locate-entry-reads
 use Rattle.page.proofs.reading.read_page.Reads as read-page-reads
 use Rattle.index.proofs.walk.+walk_entries+walk_page.{statement}
 use Rattle.index.proofs.walk.+walk_entries+walk_page.Tie.{close}
@@ -55,8 +54,8 @@ walk-page-below t =
 
 abbrev walk-entries-claims : ℕ → walk-entries-lts.Claims
 walk-entries-claims t = (
-  read-entry-reads.Asked,
-  read-entry-reads.Learnt,
+  locate-entry-reads.Asked,
+  locate-entry-reads.Learnt,
   prefix-fits-reads.Asked,
   prefix-fits-reads.Learnt,
   extend-reads.Asked,
@@ -100,16 +99,16 @@ walk-entries-loop-holds t c =
     let a = c .before .before .before .before .args in
     (search needs, search needs, search needs, onward-start (a .s .now) (a .index .now) (a .row .now) (a .last .now) (a .level) (a .page) (a .first) (a .n) (a .st) _ (search needs) (search needs) (search needs) (search needs) (search needs))
 
-walk-entries-read-entry-requires : (t : ℕ) → walk-entries-lts.Need-read-entry-requires (walk-entries-claims t) (walk-entries-at t) walk-entries.Post walk-entries-Inv-loop walk-entries-μ-loop
-walk-entries-read-entry-requires t c κs = search needs
+walk-entries-locate-entry-requires : (t : ℕ) → walk-entries-lts.Need-locate-entry-requires (walk-entries-claims t) (walk-entries-at t) walk-entries.Post walk-entries-Inv-loop walk-entries-μ-loop
+walk-entries-locate-entry-requires t c κs = search needs
 
 walk-entries-enum-known-e : (t : ℕ) → walk-entries-lts.Need-enum-known-e (walk-entries-claims t) (walk-entries-at t) walk-entries.Post walk-entries-Inv-loop walk-entries-μ-loop
 walk-entries-enum-known-e t c = search needs
 
 walk-entries-slice-aggregate-prefix-fits :
     (t : ℕ) → walk-entries-lts.Need-slice-aggregate-prefix-fits (
-      read-entry-reads.Asked,
-      read-entry-reads.Learnt,
+      locate-entry-reads.Asked,
+      locate-entry-reads.Learnt,
       prefix-fits-reads.Asked,
       prefix-fits-reads.Learnt,
       extend-reads.Asked,
@@ -123,23 +122,21 @@ walk-entries-slice-aggregate-prefix-fits t c = search needs
 
 walk-entries-prefix-fits-requires : (t : ℕ) → walk-entries-lts.Need-prefix-fits-requires (walk-entries-claims t) (walk-entries-at t) walk-entries.Post walk-entries-Inv-loop walk-entries-μ-loop
 walk-entries-prefix-fits-requires t c κs =
-    let a = c .before .before .before .before .before .before .before .before .before .before .before .args in
-    let at = c .before .before .before .before .before .before .loop .at in
-    entry-small (a .s .now) at (c .before .before .e .given .0 .0) (c .before .before .before .before .before .before .before .before .before .before .before .pre .1 .1) (entry-is (a .s .now) at (c .before .before .before .before .read-entry .ensures) (c .before .before .e .given .1)) .0
+    let found = located-is (c .before .before .before .before .before .before .before .before .before .before .before .args .s .now) (c .before .before .before .before .before .before .loop .at) (c .before .before .before .before .locate-entry .ensures) (c .before .before .e .given .1) in
+    omega (arith, found .inside, found .within)
 
 walk-entries-slice-aggregate-extend : (t : ℕ) → walk-entries-lts.Need-slice-aggregate-extend (walk-entries-claims t) (walk-entries-at t) walk-entries.Post walk-entries-Inv-loop walk-entries-μ-loop
 walk-entries-slice-aggregate-extend t c = search needs
 
 walk-entries-extend-requires : (t : ℕ) → walk-entries-lts.Need-extend-requires (walk-entries-claims t) (walk-entries-at t) walk-entries.Post walk-entries-Inv-loop walk-entries-μ-loop
 walk-entries-extend-requires t c κs =
-    let a = c .before .before .before .before .before .before .before .before .before .before .before .before .before .args in
-    let at = c .before .before .before .before .before .before .before .before .loop .at in
-    entry-small (a .s .now) at (c .before .before .before .before .e .given .0 .0) (c .before .before .before .before .before .before .before .before .before .before .before .before .before .pre .1 .1) (entry-is (a .s .now) at (c .before .before .before .before .before .before .read-entry .ensures) (c .before .before .before .before .e .given .1))
+    let found = located-is (c .before .before .before .before .before .before .before .before .before .before .before .before .before .args .s .now) (c .before .before .before .before .before .before .before .before .loop .at) (c .before .before .before .before .before .before .locate-entry .ensures) (c .before .before .before .before .e .given .1) in
+    (omega (arith, found .inside, found .within), found .shares, found .size)
 
 walk-entries-slice-aggregate-take-record :
     (t : ℕ) → walk-entries-lts.Need-slice-aggregate-take-record (
-      read-entry-reads.Asked,
-      read-entry-reads.Learnt,
+      locate-entry-reads.Asked,
+      locate-entry-reads.Learnt,
       prefix-fits-reads.Asked,
       prefix-fits-reads.Learnt,
       extend-reads.Asked,
@@ -169,11 +166,11 @@ walk-entries-loop-again t c =
     let l = taken .before .before .before .before .before .before .before .before .before .before .before .before .before .before .loop in
     let more = taken .before .before .before .before .before .before .before .before .before .before .before .before .before .loop-test .taken in
     let e = taken .before .before .before .before .before .before .before .before .before .before .e .given .0 .0 in
-    let here = entry-is (a .s .now) (l .at) (taken .before .before .before .before .before .before .before .before .before .before .before .before .read-entry .ensures) (taken .before .before .before .before .before .before .before .before .before .before .e .given .1) in
+    let found = located-is (a .s .now) (l .at) (taken .before .before .before .before .before .before .before .before .before .before .before .before .locate-entry .ensures) (taken .before .before .before .before .before .before .before .before .before .before .e .given .1) in
     let f = taken .before .before .before .before .before .before .before .prefix-fits in
     let k = taken .before .before .before .before .before .extend in
     let g = taken .take-record in
-    (omega (arith, g .kept, l .inv), omega (arith, l .inv), omega (arith, g .kept, l .inv), onward-none (l .inv .3) more (start .pre .1 .1) e here (f .result) (f .ensures .0) (f .ensures .1) (k .last .0) (k .result) (k .ensures) (g .last .0) (g .last .1 .0) (g .result) (g .ensures) (omega (arith, k .kept, l .inv .3 .room)) (c .if1 .taken))
+    (omega (arith, g .kept, l .inv), omega (arith, l .inv), omega (arith, g .kept, l .inv), onward-none (l .inv .3) more (start .pre .1 .1) e found (f .result) (f .ensures .0) (f .ensures .1) (k .last .0) (k .result) (k .ensures) (g .last .0) (g .last .1 .0) (g .result) (g .ensures) (omega (arith, k .kept, l .inv .3 .room)) (c .if1 .taken))
 
 walk-entries-add-walk-page : (t : ℕ) → walk-entries-lts.Need-add-walk-page (walk-entries-claims t) (walk-entries-at t) walk-entries.Post walk-entries-Inv-loop walk-entries-μ-loop
 walk-entries-add-walk-page t c =
@@ -187,11 +184,11 @@ walk-entries-walk-page-requires t c κs =
     let l = taken .before .before .before .before .before .before .before .before .before .before .before .before .before .before .loop in
     let more = taken .before .before .before .before .before .before .before .before .before .before .before .before .before .loop-test .taken in
     let e = taken .before .before .before .before .before .before .before .before .before .before .e .given .0 .0 in
-    let here = entry-is (a .s .now) (l .at) (taken .before .before .before .before .before .before .before .before .before .before .before .before .read-entry .ensures) (taken .before .before .before .before .before .before .before .before .before .before .e .given .1) in
+    let found = located-is (a .s .now) (l .at) (taken .before .before .before .before .before .before .before .before .before .before .before .before .locate-entry .ensures) (taken .before .before .before .before .before .before .before .before .before .before .e .given .1) in
     let f = taken .before .before .before .before .before .before .before .prefix-fits in
     let k = taken .before .before .before .before .before .extend in
     let g = taken .take-record in
-    let o = onward-record (l .inv .3) more (start .pre .1 .1) e here (f .result) (f .ensures .0) (f .ensures .1) (k .last .0) (k .result) (k .ensures) (g .last .0) (g .last .1 .0) (g .result) (g .ensures) in
+    let o = onward-record (l .inv .3) more (start .pre .1 .1) e found (f .result) (f .ensures .0) (f .ensures .1) (k .last .0) (k .result) (k .ensures) (g .last .0) (g .last .1 .0) (g .result) (g .ensures) in
     let pre = start .pre in (
       omega (arith, o, l .inv .3, pre),
       (
@@ -203,7 +200,7 @@ walk-entries-walk-page-requires t c κs =
         omega (arith, o, l .inv .3),
         omega (arith, pre),
         omega arith,
-        omega (arith, here .ends .link (omega (arith, c .before .before .before .if1)), here .ends .value, here .whole .within),
+        omega (arith, found .ends .link (omega (arith, c .before .before .before .if1)), found .ends .value, found .within),
       ),
     )
 
@@ -222,12 +219,12 @@ walk-entries-loop-again-2 t c =
     let l = taken .before .before .before .before .before .before .before .before .before .before .before .before .before .before .loop in
     let more = taken .before .before .before .before .before .before .before .before .before .before .before .before .before .loop-test .taken in
     let e = taken .before .before .before .before .before .before .before .before .before .before .e .given .0 .0 in
-    let here = entry-is (a .s .now) (l .at) (taken .before .before .before .before .before .before .before .before .before .before .before .before .read-entry .ensures) (taken .before .before .before .before .before .before .before .before .before .before .e .given .1) in
+    let found = located-is (a .s .now) (l .at) (taken .before .before .before .before .before .before .before .before .before .before .before .before .locate-entry .ensures) (taken .before .before .before .before .before .before .before .before .before .before .e .given .1) in
     let f = taken .before .before .before .before .before .before .before .prefix-fits in
     let k = taken .before .before .before .before .before .extend in
     let g = taken .take-record in
     let w = c .before .before .before .before .before .before .before .before .before .walk-page in
-    (omega (arith, w .kept, g .kept, l .inv), omega (arith, w .kept, l .inv), omega (arith, w .kept, g .kept, l .inv), onward-page (l .inv .3) more (start .pre .1 .1) e here (f .result) (f .ensures .0) (f .ensures .1) (k .last .0) (k .result) (k .ensures) (g .last .0) (g .last .1 .0) (g .result) (g .ensures) (omega (arith, k .kept, l .inv .3 .room)) (c .before .before .before .before .before .before .before .before .before .before .before .before .before .if1 .left) (w .last .1 .0) (w .last .1 .1 .0) (w .last .1 .1 .1 .0) (w .result) (c .before .next .given .0 .0) (w .ensures) (c .before .next .given .1))
+    (omega (arith, w .kept, g .kept, l .inv), omega (arith, w .kept, l .inv), omega (arith, w .kept, g .kept, l .inv), onward-page (l .inv .3) more (start .pre .1 .1) e found (f .result) (f .ensures .0) (f .ensures .1) (k .last .0) (k .result) (k .ensures) (g .last .0) (g .last .1 .0) (g .result) (g .ensures) (omega (arith, k .kept, l .inv .3 .room)) (c .before .before .before .before .before .before .before .before .before .before .before .before .before .if1 .left) (w .last .1 .0) (w .last .1 .1 .0) (w .last .1 .1 .1 .0) (w .result) (c .before .next .given .0 .0) (w .ensures) (c .before .next .given .1))
 
 walk-entries-enum-known-stop : (t : ℕ) → walk-entries-lts.Need-enum-known-stop (walk-entries-claims t) (walk-entries-at t) walk-entries.Post walk-entries-Inv-loop walk-entries-μ-loop
 walk-entries-enum-known-stop t c = search needs
@@ -252,12 +249,12 @@ walk-entries-returns t c =
     let l = taken .before .before .before .before .before .before .before .before .before .before .before .before .before .before .loop in
     let more = taken .before .before .before .before .before .before .before .before .before .before .before .before .before .loop-test .taken in
     let e = taken .before .before .before .before .before .before .before .before .before .before .e .given .0 .0 in
-    let here = entry-is (a .s .now) (l .at) (taken .before .before .before .before .before .before .before .before .before .before .before .before .read-entry .ensures) (taken .before .before .before .before .before .before .before .before .before .before .e .given .1) in
+    let found = located-is (a .s .now) (l .at) (taken .before .before .before .before .before .before .before .before .before .before .before .before .locate-entry .ensures) (taken .before .before .before .before .before .before .before .before .before .before .e .given .1) in
     let f = taken .before .before .before .before .before .before .before .prefix-fits in
     let k = taken .before .before .before .before .before .extend in
     let g = taken .take-record in
     let w = c .before .before .before .before .before .before .before .before .before .walk-page in
-    onward-stopped (l .inv .3) more (start .pre .1 .1) e here (f .result) (f .ensures .0) (f .ensures .1) (k .last .0) (k .result) (k .ensures) (g .last .0) (g .last .1 .0) (g .result) (g .ensures) (c .before .before .before .before .before .before .before .before .before .before .before .before .before .if1 .left) (w .last .1 .0) (w .last .1 .1 .0) (w .last .1 .1 .1 .0) (w .result) (c .before .stop .given .0 .0) (w .ensures) (c .before .stop .given .1)
+    onward-stopped (l .inv .3) more (start .pre .1 .1) e found (f .result) (f .ensures .0) (f .ensures .1) (k .last .0) (k .result) (k .ensures) (g .last .0) (g .last .1 .0) (g .result) (g .ensures) (c .before .before .before .before .before .before .before .before .before .before .before .before .before .if1 .left) (w .last .1 .0) (w .last .1 .1 .0) (w .last .1 .1 .1 .0) (w .result) (c .before .stop .given .0 .0) (w .ensures) (c .before .stop .given .1)
 
 walk-entries-enum-known-stop-2 : (t : ℕ) → walk-entries-lts.Need-enum-known-stop-2 (walk-entries-claims t) (walk-entries-at t) walk-entries.Post walk-entries-Inv-loop walk-entries-μ-loop
 walk-entries-enum-known-stop-2 t c = search needs
@@ -273,7 +270,7 @@ walk-entries-same-length-6 t c = search needs
 
 walk-entries-returns-2 : (t : ℕ) → walk-entries-lts.Need-returns-2 (walk-entries-claims t) (walk-entries-at t) walk-entries.Post walk-entries-Inv-loop walk-entries-μ-loop
 walk-entries-returns-2 t c =
-    onward-there (c .before .before .before .before .before .loop .inv .3) (c .before .before .before .before .loop-test .taken) (c .before .before .before .read-entry .result) (c .before .stop2 .given .0 .0) (c .before .before .before .read-entry .ensures) (c .before .stop2 .given .1)
+    onward-there (c .before .before .before .before .before .loop .inv .3) (c .before .before .before .before .loop-test .taken) (c .before .before .before .before .before .before .before .before .before .before .pre .1 .1) (c .before .before .before .locate-entry .result) (c .before .stop2 .given .0 .0) (c .before .before .before .locate-entry .ensures) (c .before .stop2 .given .1)
 
 walk-entries-same-length-7 : (t : ℕ) → walk-entries-lts.Need-same-length-7 (walk-entries-claims t) (walk-entries-at t) walk-entries.Post walk-entries-Inv-loop walk-entries-μ-loop
 walk-entries-same-length-7 t c = search needs
@@ -607,7 +604,7 @@ pub +walk-entries+walk-page-spec : {M : Type 1} → statement M
     walk-entries-Inv-loop
     walk-entries-μ-loop
     (walk-entries-loop-holds t)
-    (walk-entries-read-entry-requires t)
+    (walk-entries-locate-entry-requires t)
     (walk-entries-enum-known-e t)
     (walk-entries-slice-aggregate-prefix-fits t)
     (walk-entries-prefix-fits-requires t)

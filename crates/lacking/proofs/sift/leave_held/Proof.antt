@@ -3,7 +3,7 @@ use Prim.Native.Nat.{_+_, _-_}
 use native.Mathlib.Omega.{arith}
 use lib.ListN.{length}
 use Rattle.row.proofs.Memories.{fresh-zeros}
-use Rattle.lacking.proofs.Leaving.{SiftedSoFar, begins, ends-first, ends-second, never-too-many, keys-within, values-within, word-fits, turn-first, turn-second, turn-both}
+use Rattle.lacking.proofs.Leaving.{SiftedSoFar, begins, rest-fits, ends-first, ends-second, never-too-many, keys-within, values-within, word-fits, turn-first, turn-second, turn-both}
 use borrow.Author.Needs.{needs}
 use Rattle.lacking.proofs.sift.leave_held.Statement.{statement}
 use Rattle.lacking.proofs.sift.leave_held.Tie as tie
@@ -202,7 +202,7 @@ part-append-end : tie.Need-part-append-end Inv-loop μ-loop
 part-append-end c = search needs
 
 append-requires : tie.Need-append-requires Inv-loop μ-loop
-append-requires c κs = search needs
+append-requires c κs = (search needs, λ few. rest-fits _ _ _ _ _ _ _ _ _ _ _ _ _ _ (c .before .before .before .before .loop .inv .1))
 
 enum-known-count : tie.Need-enum-known-count Inv-loop μ-loop
 enum-known-count c = search needs

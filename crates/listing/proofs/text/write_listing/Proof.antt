@@ -1,7 +1,7 @@
 use borrow.Author.Needs.{needs}
 use native.Mathlib.Omega.{arith}
 use Rattle.page.proofs.Tools.{bytes-of}
-use Rattle.register.proofs.Verdicts.{accepted-index, judged-refused, accepted-few}
+use Rattle.register.proofs.Verdicts.{accepted-index, judged-refused, index-long, chains-long}
 use Rattle.listing.proofs.Verdicts.{index-row, wrote-too-long, wrote-refused, wrote-records, wrote-short}
 use Rattle.listing.proofs.text.write_listing.Statement.{statement}
 use Rattle.listing.proofs.text.write_listing.Tie as tie
@@ -27,7 +27,9 @@ slice-aggregate-judge-2 : tie.Need-slice-aggregate-judge-2
 slice-aggregate-judge-2 c = search needs
 
 judge-requires : tie.Need-judge-requires
-judge-requires c κs = search needs
+judge-requires c κs =
+    let s = c .before .before .before .before .before .args .s .now in
+    (index-long s _ (search needs), chains-long s _ (search needs))
 
 enum-known-count : tie.Need-enum-known-count
 enum-known-count c = search needs
@@ -50,8 +52,7 @@ add-lines-requires c κs =
     let j = c .before .before .before .before .before .before .before .before .before .before .before .before .before .before .before .judge in
     let index = accepted-index (a .s .now) _ _ (j .result) (j .ensures) (c .before .before .before .before .before .before .before .before .before .before .before .count .given .1) in
     let bytes = bytes-of (a .s .now) (λ i h. omega (arith, c .before .before .before .before .before .before .before .before .before .before .before .before .before .before .before .before .before .before .before .before .shared-slice-known .given i)) in
-    let few = accepted-few bytes index in
-    index-row bytes index (omega arith)
+    index-row bytes index
 
 enum-told : tie.Need-enum-told
 enum-told c = search needs
@@ -77,8 +78,7 @@ returns-2 c =
     let j = c .before .before .before .before .before .before .before .before .before .before .before .before .before .before .before .before .before .before .judge in
     let index = accepted-index (a .s .now) _ _ (j .result) (j .ensures) (c .before .before .before .before .before .before .before .before .before .before .before .before .before .before .count .given .1) in
     let bytes = bytes-of (a .s .now) (λ i h. omega (arith, c .before .before .before .before .before .before .before .before .before .before .before .before .before .before .before .before .before .before .before .before .before .before .before .shared-slice-known .given i)) in
-    let few = accepted-few bytes index in
-    wrote-records (omega arith) index (c .before .before .before .before .before .before .before .before .before .before .add-first-line2 .ensures) bytes (omega arith) (c .before .before .before .before .before .before .at .given .1) (c .before .before .add-lines .ensures)
+    wrote-records (omega arith) index (c .before .before .before .before .before .before .before .before .before .before .add-first-line2 .ensures) bytes (c .before .before .before .before .before .before .at .given .1) (c .before .before .add-lines .ensures)
 
 same-length-3 : tie.Need-same-length-3
 same-length-3 c = search needs

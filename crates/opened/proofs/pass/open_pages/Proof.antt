@@ -20,13 +20,13 @@ returns c =
     let k = c .before .before .mark-known in
     let bytes = bytes-of (a .s .now) (λ i h. omega (arith, c .before .before .before .before .before .before .before .before .before .shared-slice-known .given i)) in
     let others = bytes-of (a .u .now) (λ i h. omega (arith, c .before .before .before .before .before .before .before .shared-slice-known3 .given i)) in
-    none-opened (a .s .now) (a .known .now) (a .n) (a .u .now) (a .chains .now) (a .index .now) (a .m) (a .count) bytes others (w .0) (w .1) (w .2) (w .3) _ (k .result) (k .ensures) (c .if1 .taken) (a .row .now)
+    none-opened (a .s .now) (a .known .now) (a .n) (a .u .now) (a .chains .now) (a .index .now) (a .m) (a .count) bytes others (w .0) (w .1) (w .2) _ (k .result) (k .ensures) (c .if1 .taken) (a .row .now)
 
 slice-aggregate-stage-kept : tie.Need-slice-aggregate-stage-kept
 slice-aggregate-stage-kept c = search needs
 
 slice-aggregate-stage-kept-2 : tie.Need-slice-aggregate-stage-kept-2
-slice-aggregate-stage-kept-2 c = sym (length-take-le (c .before .before .before .before .before .before .before .before .before .before .before .before .args .count) (c .before .before .before .before .before .before .before .before .before .before .before .before .args .index .now) (c .before .before .before .before .before .before .before .before .before .before .before .before .pre .3))
+slice-aggregate-stage-kept-2 c = sym (length-take-le (c .before .before .before .before .before .before .before .before .before .before .before .before .args .count) (c .before .before .before .before .before .before .before .before .before .before .before .before .args .index .now) (c .before .before .before .before .before .before .before .before .before .before .before .before .pre .2 .room))
 
 stage-kept-requires : tie.Need-stage-kept-requires
 stage-kept-requires c κs =
@@ -35,7 +35,7 @@ stage-kept-requires c κs =
     let k = c .before .before .before .before .before .mark-known in
     let bytes = bytes-of (a .s .now) (λ i h. omega (arith, c .before .before .before .before .before .before .before .before .before .before .before .before .shared-slice-known .given i)) in
     let others = bytes-of (a .u .now) (λ i h. omega (arith, c .before .before .before .before .before .before .before .before .before .before .shared-slice-known3 .given i)) in
-    (index-room (a .u .now) (a .index .now) (a .count) others (w .2) (w .3) (a .row .now) (w .4), may-stage (a .s .now) (a .known .now) (a .n) (a .u .now) (a .chains .now) (a .index .now) (a .m) (a .count) bytes others (w .0) (w .1) (w .2) (w .3) _ (k .result) (k .ensures) (c .before .before .before .if1 .left), search needs)
+    (index-room (a .u .now) (a .index .now) (a .count) others (w .2) (a .row .now) (w .3), may-stage (a .s .now) (a .known .now) (a .n) (a .u .now) (a .chains .now) (a .index .now) (a .m) (a .count) bytes others (w .0) (w .1) (w .2) _ (k .result) (k .ensures) (c .before .before .before .if1 .left), search needs)
 
 same-length : tie.Need-same-length
 same-length c = search needs
@@ -47,7 +47,7 @@ returns-2 c =
     let k = c .before .before .before .before .before .before .before .before .mark-known in
     let bytes = bytes-of (a .s .now) (λ i h. omega (arith, c .before .before .before .before .before .before .before .before .before .before .before .before .before .before .before .shared-slice-known .given i)) in
     let others = bytes-of (a .u .now) (λ i h. omega (arith, c .before .before .before .before .before .before .before .before .before .before .before .before .before .shared-slice-known3 .given i)) in
-    some-opened (a .s .now) (a .known .now) (a .n) (a .u .now) (a .chains .now) (a .index .now) (a .m) (a .count) bytes others (w .0) (w .1) (w .2) (w .3) _ (k .result) (k .ensures) (c .before .before .before .before .before .before .if1 .left) _ (c .before .before .stage-kept .result) (c .before .before .stage-kept .ensures)
+    some-opened (a .s .now) (a .known .now) (a .n) (a .u .now) (a .chains .now) (a .index .now) (a .m) (a .count) bytes others (w .0) (w .1) (w .2) _ (k .result) (k .ensures) (c .before .before .before .before .before .before .if1 .left) _ (c .before .before .stage-kept .result) (c .before .before .stage-kept .ensures)
 
 pub open-pages-spec : {M : Type 1} → statement M
 open-pages-spec =

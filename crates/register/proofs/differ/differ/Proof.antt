@@ -20,32 +20,24 @@ both c = record {
   others = bytes-of (c .before .before .args .second .now) (λ i h. omega (arith, c .shared-slice-known2 .given i));
   first = c .before .before .pre .0;
   second = c .before .before .pre .1;
-  fits = c .before .before .pre .4;
-  others-fit = c .before .before .pre .5;
 }
-
-slice-aggregate-open-pages : tie.Need-slice-aggregate-open-pages
-slice-aggregate-open-pages c = search needs
 
 open-pages-requires : tie.Need-open-pages-requires
 open-pages-requires c κs =
-    let pre = c .before .before .before .before .before .before .before .before .before .pre in
-    may-open (both (c .before .before .before .before .before .before .before)) (pre .2) (pre .3)
+    let pre = c .before .before .before .before .before .before .before .before .before .before .pre in
+    may-open (both (c .before .before .before .before .before .before .before .before)) (pre .2) (pre .3) (pre .4)
 
 cast-opened : tie.Need-cast-opened
 cast-opened c =
-    omega (arith, small-counts (both (c .before .before .before .before .before .before .before .before .before .before)) (c .before .before .open-pages .result) _ (c .before .before .open-pages .ensures) (c .before .before .open-pages .kept .1 .1 .1 .1 .1 .1 .1 .1 .0))
-
-slice-aggregate-leave-held : tie.Need-slice-aggregate-leave-held
-slice-aggregate-leave-held c = search needs
+    omega (arith, small-counts (both (c .before .before .before .before .before .before .before .before .before .before .before .before)) (c .before .before .before .open-pages .result) _ (c .before .before .before .open-pages .ensures) (omega (arith, c .before .before .before .before .before .before .before .before .before .before .before .before .before .before .pre .4, c .before .before .before .open-pages .kept .1 .1 .1 .1 .1 .1 .1 .1 .0)))
 
 leave-held-requires : tie.Need-leave-held-requires
 leave-held-requires c κs =
-    may-leave (both (c .before .before .before .before .before .before .before .before .before .before .before .before)) (c .before .before .before .before .open-pages .result) _ (c .before .before .before .before .open-pages .ensures) (c .before .before .before .before .open-pages .kept .1 .1 .1 .1 .1 .1 .1 .1 .0) (c .before .before .before .before .before .before .before .before .before .before .before .before .before .before .pre .6)
+    may-leave (both (c .before .before .before .before .before .before .before .before .before .before .before .before .before .before)) (c .before .before .before .before .before .open-pages .result) _ (c .before .before .before .before .before .open-pages .ensures) (omega (arith, c .before .before .before .before .before .before .before .before .before .before .before .before .before .before .before .before .pre .4, c .before .before .before .before .before .open-pages .kept .1 .1 .1 .1 .1 .1 .1 .1 .0))
 
 write-table-requires : tie.Need-write-table-requires
 write-table-requires c κs =
-    let pre = c .before .before .before .before .before .before .before .before .before .before .before .before .before .before .before .before .before .before .before .pre in
+    let pre = c .before .before .before .before .before .before .before .before .before .before .before .before .before .before .before .before .before .before .before .before .before .pre in
     (c .before .before .before .before .leave-held .ensures .whole, row-labelled (pre .2), row-labelled (pre .3))
 
 enum-known-length : tie.Need-enum-known-length
@@ -60,35 +52,41 @@ same-length c = search needs
 same-length-2 : tie.Need-same-length-2
 same-length-2 c = search needs
 
-returns : tie.Need-returns
-returns c =
-    difference-found (both (c .before .before .before .before .before .before .before .before .before .before .before .before .before .before .before .before .before .before .before .before .before .before .before)) (c .before .before .before .before .before .before .before .before .before .before .before .before .before .before .before .open-pages .result) _ (c .before .before .before .before .before .before .before .before .before .before .before .before .before .before .before .open-pages .ensures) (c .before .before .before .before .before .before .before .before .before .before .before .before .before .before .before .open-pages .kept .1 .1 .1 .1 .1 .1 .1 .1 .0) _ _ (c .before .before .before .before .before .before .before .before .before .before .leave-held .ensures) (length (c .before .before .before .before .before .before .before .before .before .before .before .before .before .before .before .before .before .before .before .before .before .before .before .before .before .args .out .now)) (c .before .before .before .before .before .write-table .result) _ (c .before .before .before .before .before .write-table .ensures) _ (c .before .length .given .1)
-
 same-length-3 : tie.Need-same-length-3
 same-length-3 c = search needs
+
+returns : tie.Need-returns
+returns c =
+    difference-found (both (c .before .before .before .before .before .before .before .before .before .before .before .before .before .before .before .before .before .before .before .before .before .before .before .before .before)) (c .before .before .before .before .before .before .before .before .before .before .before .before .before .before .before .before .open-pages .result) _ (c .before .before .before .before .before .before .before .before .before .before .before .before .before .before .before .before .open-pages .ensures) (omega (arith, c .before .before .before .before .before .before .before .before .before .before .before .before .before .before .before .before .before .before .before .before .before .before .before .before .before .before .before .pre .4, c .before .before .before .before .before .before .before .before .before .before .before .before .before .before .before .before .open-pages .kept .1 .1 .1 .1 .1 .1 .1 .1 .0)) _ _ (c .before .before .before .before .before .before .before .before .before .before .leave-held .ensures) (length (c .before .before .before .before .before .before .before .before .before .before .before .before .before .before .before .before .before .before .before .before .before .before .before .before .before .before .before .args .out .now)) (c .before .before .before .before .before .write-table .result) _ (c .before .before .before .before .before .write-table .ensures) _ (c .before .length .given .1)
 
 same-length-4 : tie.Need-same-length-4
 same-length-4 c = search needs
 
+same-length-5 : tie.Need-same-length-5
+same-length-5 c = search needs
+
+same-length-6 : tie.Need-same-length-6
+same-length-6 c = search needs
+
 returns-2 : tie.Need-returns-2
 returns-2 c =
-    difference-refused (both (c .before .before .before .before .before .before .before .before .before .before .before .before .before .before .before .before .before .before .before .before .before .before .before)) (c .before .before .before .before .before .before .before .before .before .before .before .before .before .before .before .open-pages .result) _ (c .before .before .before .before .before .before .before .before .before .before .before .before .before .before .before .open-pages .ensures) (c .before .before .before .before .before .before .before .before .before .before .before .before .before .before .before .open-pages .kept .1 .1 .1 .1 .1 .1 .1 .1 .0) _ _ (c .before .before .before .before .before .before .before .before .before .before .leave-held .ensures) (length (c .before .before .before .before .before .before .before .before .before .before .before .before .before .before .before .before .before .before .before .before .before .before .before .before .before .args .out .now)) (c .before .before .before .before .before .write-table .result) _ (c .before .before .before .before .before .write-table .ensures) _ (c .before .refusal .given .1)
+    difference-refused (both (c .before .before .before .before .before .before .before .before .before .before .before .before .before .before .before .before .before .before .before .before .before .before .before .before .before)) (c .before .before .before .before .before .before .before .before .before .before .before .before .before .before .before .before .open-pages .result) _ (c .before .before .before .before .before .before .before .before .before .before .before .before .before .before .before .before .open-pages .ensures) (omega (arith, c .before .before .before .before .before .before .before .before .before .before .before .before .before .before .before .before .before .before .before .before .before .before .before .before .before .before .before .pre .4, c .before .before .before .before .before .before .before .before .before .before .before .before .before .before .before .before .open-pages .kept .1 .1 .1 .1 .1 .1 .1 .1 .0)) _ _ (c .before .before .before .before .before .before .before .before .before .before .leave-held .ensures) (length (c .before .before .before .before .before .before .before .before .before .before .before .before .before .before .before .before .before .before .before .before .before .before .before .before .before .before .before .args .out .now)) (c .before .before .before .before .before .write-table .result) _ (c .before .before .before .before .before .write-table .ensures) _ (c .before .refusal .given .1)
 
 pub differ-spec : {M : Type 1} → statement M
 differ-spec =
     tie.close
     (tie.spec
-    slice-aggregate-open-pages
     open-pages-requires
     cast-opened
-    slice-aggregate-leave-held
     leave-held-requires
     write-table-requires
     enum-known-length
     enum-known-refusal
     same-length
     same-length-2
-    returns
     same-length-3
+    returns
     same-length-4
+    same-length-5
+    same-length-6
     returns-2)

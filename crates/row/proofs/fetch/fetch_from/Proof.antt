@@ -6,9 +6,8 @@ use lib.ListN.{length}
 use Rattle.fips180.specs.Bytes.{Bytes}
 use Rattle.page.proofs.Tools.{bytes-of}
 use Rattle.index.specs.Word.{pageIn, entryIn}
-use Rattle.index.proofs.Entries.{entry-inside, shares-small, size-small}
 use Rattle.row.specs.Fetch.{OnTheWay}
-use Rattle.row.proofs.Ways.{nearer, way-begins, no-way, way-on, way-stops, way-ends, way-breaks}
+use Rattle.row.proofs.Ways.{located-inside, located-shares, located-size, nearer, way-begins, no-way, way-on, way-stops, way-ends, way-breaks}
 use Rattle.row.proofs.fetch.fetch_from.Statement.{statement}
 use Rattle.row.proofs.fetch.fetch_from.Tie as tie
 
@@ -29,14 +28,14 @@ loop-holds c =
     let bytes = bytes-of (c .before .before .before .before .before .before .args .s .now) (λ i h. omega (arith, c .before .before .before .before .before .shared-slice-known .given i)) in
     (search needs, bytes, search needs, search needs, way-begins _ _ _ _ _ (c .before .before .before .way-to .ensures) _ _ (c .before .first .given .1) _)
 
-read-entry-requires : tie.Need-read-entry-requires Inv-loop μ-loop
-read-entry-requires c κs = search needs
+locate-entry-requires : tie.Need-locate-entry-requires Inv-loop μ-loop
+locate-entry-requires c κs = search needs
 
 enum-known-e : tie.Need-enum-known-e Inv-loop μ-loop
 enum-known-e c = search needs
 
 extend-requires : tie.Need-extend-requires Inv-loop μ-loop
-extend-requires c κs = (search (needs, entry-inside), search (needs, shares-small), search (needs, size-small))
+extend-requires c κs = (search (needs, located-inside), search (needs, located-shares), search (needs, located-size))
 
 loop-less : tie.Need-loop-less Inv-loop μ-loop
 loop-less c = search (needs, nearer)
@@ -56,14 +55,14 @@ same-length c = search needs
 returns : tie.Need-returns Inv-loop μ-loop
 returns c = search (needs, way-stops)
 
-read-entry-requires-2 : tie.Need-read-entry-requires-2 Inv-loop μ-loop
-read-entry-requires-2 c κs = search needs
+locate-entry-requires-2 : tie.Need-locate-entry-requires-2 Inv-loop μ-loop
+locate-entry-requires-2 c κs = search needs
 
 enum-known-e-2 : tie.Need-enum-known-e-2 Inv-loop μ-loop
 enum-known-e-2 c = search needs
 
 extend-requires-2 : tie.Need-extend-requires-2 Inv-loop μ-loop
-extend-requires-2 c κs = (search (needs, entry-inside), search (needs, shares-small), search (needs, size-small))
+extend-requires-2 c κs = (search (needs, located-inside), search (needs, located-shares), search (needs, located-size))
 
 enum-told-2 : tie.Need-enum-told-2 Inv-loop μ-loop
 enum-told-2 c = search needs
@@ -101,7 +100,7 @@ fetch-from-spec =
     way-to-requires
     enum-known-first
     loop-holds
-    read-entry-requires
+    locate-entry-requires
     enum-known-e
     extend-requires
     loop-less
@@ -110,7 +109,7 @@ fetch-from-spec =
     nowhere-requires
     same-length
     returns
-    read-entry-requires-2
+    locate-entry-requires-2
     enum-known-e-2
     extend-requires-2
     enum-told-2

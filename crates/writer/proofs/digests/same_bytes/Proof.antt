@@ -1,32 +1,31 @@
 use Prim.Native.Nat.{_-_, _≤_}
-use mathlib.Core.Path.{_≡_}
-use lib.ListN.{length}
+use mathlib.Core.Path.{_≡_, refl}
+use mathlib.Core.Bool.{_&&_}
+use lib.ListN.{length, drop}
 use borrow.Author.Needs.{needs}
-use borrow.Author.Count.{below-more}
-use Rattle.writer.proofs.Labels.{SameBelow, lengths-differ, byte-differs, all-equal}
+use Rattle.tree.specs.Judge.{equal}
+use Rattle.writer.proofs.Labels.{lengths-differ, bytes-compared, bytes-end}
 use Rattle.writer.proofs.digests.same_bytes.Statement.{statement}
 use Rattle.writer.proofs.digests.same_bytes.Tie as tie
 
+-- what was found so far and the bytes from i on together tell whether all are equal
 abbrev Inv-loop : tie.InvT-loop
-Inv-loop a b i₀ i = (i ≤ length a) × (length a ≡ length b) × SameBelow a b i
+Inv-loop a b same₀ i₀ same i = (i ≤ length a) × (length a ≡ length b) × ((same && equal (drop i a) (drop i b)) ≡ equal a b)
 
 abbrev μ-loop : tie.MeasureT-loop
-μ-loop a b i₀ i = length a - i
+μ-loop a b same₀ i₀ same i = length a - i
 
 returns : tie.Need-returns Inv-loop μ-loop
 returns c = search (needs, lengths-differ)
 
 loop-holds : tie.Need-loop-holds Inv-loop μ-loop
-loop-holds c = search needs
+loop-holds c = (search needs, search needs, refl)
 
-shared-slice-read-if2 : tie.Need-shared-slice-read-if2 Inv-loop μ-loop
-shared-slice-read-if2 c = search needs
+shared-slice-read-same : tie.Need-shared-slice-read-same Inv-loop μ-loop
+shared-slice-read-same c = search needs
 
-shared-slice-read-if2-2 : tie.Need-shared-slice-read-if2-2 Inv-loop μ-loop
-shared-slice-read-if2-2 c = search needs
-
-returns-2 : tie.Need-returns-2 Inv-loop μ-loop
-returns-2 c = byte-differs _ _ (c .before .before .before .before .loop .i) (c .if2 .taken)
+shared-slice-read-same-2 : tie.Need-shared-slice-read-same-2 Inv-loop μ-loop
+shared-slice-read-same-2 c = search needs
 
 add-i : tie.Need-add-i Inv-loop μ-loop
 add-i c = search needs
@@ -36,11 +35,13 @@ loop-less c = search needs
 
 loop-again : tie.Need-loop-again Inv-loop μ-loop
 loop-again c =
-    let l = c .before .before .before .before .loop in
-    (search needs, search needs, below-more _ (l .i) (l .inv .2) (c .if2 .left))
+    let l = c .before .before .before .loop in
+    (search needs, search needs, bytes-compared _ _ (l .same) (l .i) (l .inv .1) (l .inv .2) (search needs))
 
-returns-3 : tie.Need-returns-3 Inv-loop μ-loop
-returns-3 c = search (needs, all-equal)
+returns-2 : tie.Need-returns-2 Inv-loop μ-loop
+returns-2 c =
+    let l = c .before .loop in
+    bytes-end _ _ (l .same) (l .i) (l .inv .1) (l .inv .2) (search needs)
 
 pub same-bytes-spec : {M : Type 1} → statement M
 same-bytes-spec =
@@ -50,10 +51,9 @@ same-bytes-spec =
     μ-loop
     returns
     loop-holds
-    shared-slice-read-if2
-    shared-slice-read-if2-2
-    returns-2
+    shared-slice-read-same
+    shared-slice-read-same-2
     add-i
     loop-less
     loop-again
-    returns-3)
+    returns-2)

@@ -1,13 +1,12 @@
 use borrow.Author.Needs.{needs}
 use Prim.Native.Nat.{ℕ, _+_, _-_, _*_, _<_}
-use mathlib.Core.Path.{_≡_, sym, _∙_}
+use mathlib.Core.Path.{_≡_, refl, _∙_}
 use native.Mathlib.Omega.{arith}
 use lib.ListN.{length}
-use lib.Seq.{length-take-le}
 use Rattle.writer.specs.Build.{recordIn, pageAt}
 use Rattle.writer.proofs.Ranges.{table-longer}
 use Rattle.writer.proofs.Turns.{back-length}
-use Rattle.writer.proofs.Gaps.{no-room, own-fits, gap-layer, gap-nothing, gap-refused, gap-linked}
+use Rattle.writer.proofs.Gaps.{no-room, own-fits, gap-layer, gap-nothing, gap-below}
 use Rattle.writer.proofs.Sites.{child-length, ready-within, same-memory, still-holding, Begun, whole, start-room, page-total, left-lacks, tail-fits, stands, Going, starts, Child, child-lacks, tail-more, coded-room, at-more, goes-on, Ended, last-room, finishes}
 use borrow.Fn.Kinds.{In}
 use borrow.Fn.PlainCycle.{Measures, is, falls, and}
@@ -21,12 +20,13 @@ use Rattle.writer.proofs.pages.write_page.Kinds as write-page-kinds
 use Rattle.writer.proofs.pages.+write_gap+write_page.Lts-write_page as write-page-lts
 use Rattle.page.proofs.writing.write_page_end.Reads as write-page-end-reads
 use Rattle.page.proofs.writing.write_page_start.Reads as write-page-start-reads
-use Rattle.writer.proofs.digests.page_digest.Reads as page-digest-reads
+use Rattle.writer.proofs.pages.below_of.Reads as below-of-reads
 use Rattle.writer.proofs.pages.has_page.Reads as has-page-reads
 use Rattle.writer.proofs.pages.measure.Reads as measure-reads
 use Rattle.writer.proofs.pages.no_room.Reads as no-room-reads
 use Rattle.writer.proofs.pages.nothing_below.Reads as nothing-below-reads
 use Rattle.writer.proofs.pages.run_end.Reads as run-end-reads
+use Rattle.writer.proofs.pages.write_leaf.Reads as write-leaf-reads
 use Rattle.writer.proofs.pages.write_record.Reads as write-record-reads
 
 abbrev μ-write-gap : Measures 8 write-gap-kinds.ps ℕ
@@ -56,10 +56,12 @@ write-gap-claims t = (
   has-page-reads.Learnt,
   nothing-below-reads.Asked,
   nothing-below-reads.Learnt,
+  write-leaf-reads.Asked,
+  write-leaf-reads.Learnt,
+  below-of-reads.Asked,
+  below-of-reads.Learnt,
   write-page-below t,
   write-page.Post,
-  page-digest-reads.Asked,
-  page-digest-reads.Learnt,
 )
 
 write-gap-has-page-requires : (t : ℕ) → write-gap-lts.Need-has-page-requires (write-gap-claims t) (write-gap-at t) write-gap.Post
@@ -76,23 +78,15 @@ write-gap-returns t c =
     let a = start .args in
     (gap-nothing (a .layer) (recordIn (a .s .now) (a .u .now) (a .row .now)) (a .lo) (a .hi - a .lo) (a .out .now) (a .out .now) (after-has-page .has-page .result) (after-has-page .has-page .ensures) (after-if1 .if1 .taken) (c .nothing-below .result) (c .nothing-below .ensures), start .pre .1 .0 .memory)
 
-write-gap-sub-write-page : (t : ℕ) → write-gap-lts.Need-sub-write-page (write-gap-claims t) (write-gap-at t) write-gap.Post
-write-gap-sub-write-page t c =
-    let after-has-page = c .before in
-    let start = after-has-page .before .before .before .before .before .before .before .before .before in
-    let a = start .args in
-    omega (arith, gap-layer (a .layer) (recordIn (a .s .now) (a .u .now) (a .row .now)) (a .lo) (a .hi - a .lo) (a .out .now) (a .out .now) (after-has-page .has-page .result) (after-has-page .has-page .ensures) (c .if1 .left))
+write-gap-write-leaf-requires : (t : ℕ) → write-gap-lts.Need-write-leaf-requires (write-gap-claims t) (write-gap-at t) write-gap.Post
+write-gap-write-leaf-requires t c κs = c .before .before .before .before .before .before .before .before .before .before .before .before .before .before .pre .1 .0
 
-write-gap-write-page-requires : (t : ℕ) → write-gap-lts.Need-write-page-requires (write-gap-claims t) (write-gap-at t) write-gap.Post
-write-gap-write-page-requires t c κs =
-    let after-if1 = c .before .before .before in
-    let after-has-page = after-if1 .before in
-    let start = after-has-page .before .before .before .before .before .before .before .before .before in
-    let a = start .args in
-    (omega (arith, start .pre .0, gap-layer (a .layer) (recordIn (a .s .now) (a .u .now) (a .row .now)) (a .lo) (a .hi - a .lo) (a .out .now) (a .out .now) (after-has-page .has-page .result) (after-has-page .has-page .ensures) (after-if1 .if1 .left)), start .pre .1)
-
-write-gap-nothing-below-requires-2 : (t : ℕ) → write-gap-lts.Need-nothing-below-requires-2 (write-gap-claims t) (write-gap-at t) write-gap.Post
-write-gap-nothing-below-requires-2 t c κs = search needs
+write-gap-below-of-requires : (t : ℕ) → write-gap-lts.Need-below-of-requires (write-gap-claims t) (write-gap-at t) write-gap.Post
+write-gap-below-of-requires t c κs =
+    let after-write-leaf = c .before .before .before .before .before .before .before in
+    let start = after-write-leaf .before .before .before .before .before .before .before .before .before .before .before .before .before .before .before in
+    let w = after-write-leaf .write-leaf in
+    (start .pre .1 .1, start .pre .1 .2, start .pre .1 .0 .range .room, own-fits (w .ensures .0) (w .kept .1 .1 .1 .1 .1 .1 .1 .0))
 
 write-gap-same-length : (t : ℕ) → write-gap-lts.Need-same-length (write-gap-claims t) (write-gap-at t) write-gap.Post
 write-gap-same-length t c = search needs
@@ -105,32 +99,37 @@ write-gap-same-length-3 t c = search needs
 
 write-gap-returns-2 : (t : ℕ) → write-gap-lts.Need-returns-2 (write-gap-claims t) (write-gap-at t) write-gap.Post
 write-gap-returns-2 t c =
-    let after-if2 = c .before in
-    let after-write-page = after-if2 .before .before .before .before .before .before .before .before in
-    let after-if1 = after-write-page .before .before .before .before in
+    let after-write-leaf = c .before .before .before .before .before .before .before .before in
+    let after-if2 = after-write-leaf .before .before .before .before in
+    let after-if1 = after-if2 .before in
     let after-has-page = after-if1 .before in
     let start = after-has-page .before .before .before .before .before .before .before .before .before in
     let a = start .args in
-    let w = after-write-page .write-page in
-    (gap-refused (a .layer) (recordIn (a .s .now) (a .u .now) (a .row .now)) (a .lo) (a .hi - a .lo) (a .out .now) _ (after-has-page .has-page .result) (after-has-page .has-page .ensures) (after-if1 .if1 .left) (w .ensures .0) (after-if2 .if2 .taken) (c .nothing-below2 .result) (c .nothing-below2 .ensures), w .ensures .1)
+    let w = after-write-leaf .write-leaf in
+    (gap-below (a .layer) (recordIn (a .s .now) (a .u .now) (a .row .now)) (a .lo) (a .hi - a .lo) (a .out .now) _ (after-has-page .has-page .result) (after-has-page .has-page .ensures) (after-if1 .if1 .left) 0 (omega (arith, after-if2 .if2 .taken)) (w .ensures .0) (c .below-of .result) (c .below-of .ensures), w .ensures .1)
 
-write-gap-slice-reshare-prefix-page-digest : (t : ℕ) → write-gap-lts.Need-slice-reshare-prefix-page-digest (write-gap-claims t) (write-gap-at t) write-gap.Post
-write-gap-slice-reshare-prefix-page-digest t c =
-    let after-write-page = c .before .before .before .before .before .before .before .before in
-    let w = after-write-page .write-page in
-    own-fits (w .ensures .0) (c .if2 .left) (w .kept .1 .1 .1 .1 .1 .1 .1 .1 .1 .1 .1 .1 .0)
+write-gap-sub-write-page : (t : ℕ) → write-gap-lts.Need-sub-write-page (write-gap-claims t) (write-gap-at t) write-gap.Post
+write-gap-sub-write-page t c =
+    let after-if1 = c .before in
+    let after-has-page = after-if1 .before in
+    let start = after-has-page .before .before .before .before .before .before .before .before .before in
+    let a = start .args in
+    omega (arith, gap-layer (a .layer) (recordIn (a .s .now) (a .u .now) (a .row .now)) (a .lo) (a .hi - a .lo) (a .out .now) (a .out .now) (after-has-page .has-page .result) (after-has-page .has-page .ensures) (after-if1 .if1 .left))
 
-write-gap-slice-aggregate-page-digest : (t : ℕ) → write-gap-lts.Need-slice-aggregate-page-digest (write-gap-claims t) (write-gap-at t) write-gap.Post
-write-gap-slice-aggregate-page-digest t c =
-    let after-if2 = c .before in
-    let after-write-page = after-if2 .before .before .before .before .before .before .before .before in
-    let w = after-write-page .write-page in
-    sym (length-take-le (w .result .own) _ (own-fits (w .ensures .0) (after-if2 .if2 .left) (w .kept .1 .1 .1 .1 .1 .1 .1 .1 .1 .1 .1 .1 .0)))
+write-gap-write-page-requires : (t : ℕ) → write-gap-lts.Need-write-page-requires (write-gap-claims t) (write-gap-at t) write-gap.Post
+write-gap-write-page-requires t c κs =
+    let after-if1 = c .before .before .before .before in
+    let after-has-page = after-if1 .before in
+    let start = after-has-page .before .before .before .before .before .before .before .before .before in
+    let a = start .args in
+    (omega (arith, start .pre .0, gap-layer (a .layer) (recordIn (a .s .now) (a .u .now) (a .row .now)) (a .lo) (a .hi - a .lo) (a .out .now) (a .out .now) (after-has-page .has-page .result) (after-has-page .has-page .ensures) (after-if1 .if1 .left)), start .pre .1)
 
-write-gap-page-digest-requires : (t : ℕ) → write-gap-lts.Need-page-digest-requires (write-gap-claims t) (write-gap-at t) write-gap.Post
-write-gap-page-digest-requires t c κs =
-    let start = c .before .before .before .before .before .before .before .before .before .before .before .before .before .before .before .before .before .before .before .before .before .before .before in
-    (start .pre .1 .1, start .pre .1 .2, start .pre .1 .0 .range .room)
+write-gap-below-of-requires-2 : (t : ℕ) → write-gap-lts.Need-below-of-requires-2 (write-gap-claims t) (write-gap-at t) write-gap.Post
+write-gap-below-of-requires-2 t c κs =
+    let after-write-page = c .before .before .before .before .before .before .before in
+    let start = after-write-page .before .before .before .before .before .before .before .before .before .before .before .before .before .before .before in
+    let w = after-write-page .write-page in
+    (start .pre .1 .1, start .pre .1 .2, start .pre .1 .0 .range .room, own-fits (w .ensures .0) (w .kept .1 .1 .1 .1 .1 .1 .1 .1 .1 .1 .1 .1 .0))
 
 write-gap-same-length-4 : (t : ℕ) → write-gap-lts.Need-same-length-4 (write-gap-claims t) (write-gap-at t) write-gap.Post
 write-gap-same-length-4 t c = search needs
@@ -143,14 +142,13 @@ write-gap-same-length-6 t c = search needs
 
 write-gap-returns-3 : (t : ℕ) → write-gap-lts.Need-returns-3 (write-gap-claims t) (write-gap-at t) write-gap.Post
 write-gap-returns-3 t c =
-    let after-if2 = c .before .before in
-    let after-write-page = after-if2 .before .before .before .before .before .before .before .before in
-    let after-if1 = after-write-page .before .before .before .before in
+    let after-write-page = c .before .before .before .before .before .before .before .before in
+    let after-if1 = after-write-page .before .before .before .before .before in
     let after-has-page = after-if1 .before in
     let start = after-has-page .before .before .before .before .before .before .before .before .before in
     let a = start .args in
     let w = after-write-page .write-page in
-    (gap-linked (a .layer) (recordIn (a .s .now) (a .u .now) (a .row .now)) (a .lo) (a .hi - a .lo) (a .out .now) _ (after-has-page .has-page .result) (after-has-page .has-page .ensures) (after-if1 .if1 .left) (w .ensures .0) (after-if2 .if2 .left) (c .page-digest .result) (c .page-digest .ensures), w .ensures .1)
+    (gap-below (a .layer) (recordIn (a .s .now) (a .u .now) (a .row .now)) (a .lo) (a .hi - a .lo) (a .out .now) _ (after-has-page .has-page .result) (after-has-page .has-page .ensures) (after-if1 .if1 .left) (a .layer - 1) refl (w .ensures .0) (c .below-of2 .result) (c .below-of2 .ensures), w .ensures .1)
 
 abbrev write-page-claims : ℕ → write-page-lts.Claims
 write-page-claims t = (
@@ -528,16 +526,15 @@ pub +write-gap+write-page-spec : {M : Type 1} → statement M
     (write-gap-has-page-requires t)
     (write-gap-nothing-below-requires t)
     (write-gap-returns t)
-    (write-gap-sub-write-page t)
-    (write-gap-write-page-requires t)
-    (write-gap-nothing-below-requires-2 t)
+    (write-gap-write-leaf-requires t)
+    (write-gap-below-of-requires t)
     (write-gap-same-length t)
     (write-gap-same-length-2 t)
     (write-gap-same-length-3 t)
     (write-gap-returns-2 t)
-    (write-gap-slice-reshare-prefix-page-digest t)
-    (write-gap-slice-aggregate-page-digest t)
-    (write-gap-page-digest-requires t)
+    (write-gap-sub-write-page t)
+    (write-gap-write-page-requires t)
+    (write-gap-below-of-requires-2 t)
     (write-gap-same-length-4 t)
     (write-gap-same-length-5 t)
     (write-gap-same-length-6 t)

@@ -5,8 +5,8 @@ use lib.Seq.{length-take-le}
 use Rattle.page.proofs.Tools.{bytes-of}
 use Rattle.register.proofs.Listings.{size-small, list-no-room, list-record}
 use borrow.Author.Needs.{needs}
-use Rattle.register.proofs.nth.give_nth.Statement.{statement}
-use Rattle.register.proofs.nth.give_nth.Tie as tie
+use Rattle.register.proofs.accepted.record_at.Statement.{statement}
+use Rattle.register.proofs.accepted.record_at.Tie as tie
 
 clear-requires : tie.Need-clear-requires
 clear-requires c κs = search needs
@@ -29,9 +29,10 @@ same-length c = search needs
 returns : tie.Need-returns
 returns c =
     let a = c .before .before .before .before .before .before .before .before .before .before .before .before .before .args in
+    let pre = c .before .before .before .before .before .before .before .before .before .before .before .before .before .pre in
     let bytes = bytes-of (a .register .now) (λ i h. omega (arith, c .before .before .before .before .before .before .before .before .before .before .before .before .shared-slice-known .given i)) in
     let f = c .before .before .fetch-from in
-    let over = size-small (c .before .before .before .before .before .before .before .before .before .before .before .before .before .pre .0) bytes (a .n) (c .before .before .before .before .before .before .before .before .before .before .before .before .before .pre .1) _ _ (f .result) (f .ensures) (omega arith) in
+    let over = size-small (pre .0) bytes (a .n) (pre .1) _ _ (f .result) (f .ensures) (omega (arith, pre .0 .room)) in
     absurd (omega arith)
 
 same-length-2 : tie.Need-same-length-2
@@ -40,9 +41,10 @@ same-length-2 c = search needs
 returns-2 : tie.Need-returns-2
 returns-2 c =
     let a = c .before .before .before .before .before .before .before .before .before .before .before .before .before .before .args in
+    let pre = c .before .before .before .before .before .before .before .before .before .before .before .before .before .before .pre in
     let bytes = bytes-of (a .register .now) (λ i h. omega (arith, c .before .before .before .before .before .before .before .before .before .before .before .before .before .shared-slice-known .given i)) in
     let f = c .before .before .before .fetch-from in
-    list-no-room (c .before .before .before .before .before .before .before .before .before .before .before .before .before .before .pre .0) bytes (a .n) (c .before .before .before .before .before .before .before .before .before .before .before .before .before .before .pre .1) _ _ (f .result) (f .ensures) (omega arith) (length (a .out .now)) (c .before .before .before .before .before .before .before .before .before .clear .ensures) refl (omega arith)
+    list-no-room (pre .0) bytes (a .n) (pre .1) _ _ (f .result) (f .ensures) (omega (arith, pre .0 .room)) (length (a .out .now)) (c .before .before .before .before .before .before .before .before .before .clear .ensures) refl (omega arith)
 
 array-share-prefix-buffer : tie.Need-array-share-prefix-buffer
 array-share-prefix-buffer c = search needs
@@ -69,13 +71,14 @@ same-length-3 c = search needs
 returns-3 : tie.Need-returns-3
 returns-3 c =
     let a = c .before .before .before .before .before .before .before .before .before .before .before .before .before .before .before .before .before .before .before .before .args in
+    let pre = c .before .before .before .before .before .before .before .before .before .before .before .before .before .before .before .before .before .before .before .before .pre in
     let bytes = bytes-of (a .register .now) (λ i h. omega (arith, c .before .before .before .before .before .before .before .before .before .before .before .before .before .before .before .before .before .before .before .shared-slice-known .given i)) in
     let f = c .before .before .before .before .before .before .before .before .before .fetch-from in
     let clear = c .before .before .before .before .before .before .before .before .before .before .before .before .before .before .before .clear in
-    list-record (c .before .before .before .before .before .before .before .before .before .before .before .before .before .before .before .before .before .before .before .before .pre .0) bytes (a .n) (c .before .before .before .before .before .before .before .before .before .before .before .before .before .before .before .before .before .before .before .before .pre .1) _ _ (f .result) (f .ensures) (omega arith) (length (a .out .now)) _ _ _ (omega arith) (omega (arith, clear .kept .0)) (clear .ensures) (c .before .before .before .copy-in .ensures) (c .value-at .ensures)
+    list-record (pre .0) bytes (a .n) (pre .1) _ _ (f .result) (f .ensures) (omega (arith, pre .0 .room)) (length (a .out .now)) _ _ _ (omega arith) (omega (arith, clear .kept .0)) (clear .ensures) (c .before .before .before .copy-in .ensures) (c .value-at .ensures)
 
-pub give-nth-spec : {M : Type 1} → statement M
-give-nth-spec =
+pub record-at-spec : {M : Type 1} → statement M
+record-at-spec =
     tie.close
     (tie.spec
     clear-requires

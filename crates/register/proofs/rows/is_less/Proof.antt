@@ -1,8 +1,8 @@
 use mathlib.Core.Path.{_∙_}
 use Rattle.register.proofs.Ranges.{order-is-less, order-is-not-less, order-is-greater}
 use borrow.Author.Needs.{needs}
-use Rattle.register.proofs.is_less.Statement.{statement}
-use Rattle.register.proofs.is_less.Tie as tie
+use Rattle.register.proofs.rows.is_less.Statement.{statement}
+use Rattle.register.proofs.rows.is_less.Tie as tie
 
 compare-requires : tie.Need-compare-requires
 compare-requires c κs = search needs

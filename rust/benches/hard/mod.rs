@@ -1,0 +1,114 @@
+//! Pairs of registers on which a careless reader is slow: many pages, deep pages, keys that share
+//! most of their bytes.
+
+use crate::common::forge::{link_to, Entry, Page};
+use crate::common::sets::set_of_layers;
+use independent::{pages, table, Set};
+
+/// Two registers that the calls are timed on.
+pub struct Hard {
+    pub name: &'static str,
+    pub registers: [Vec<u8>; 2],
+    /// How many bytes of each are hashed where nothing is wrong: those of its pages and its keys.
+    pub hashed: [usize; 2],
+}
+
+impl Hard {
+    /// Gives all of them.
+    pub fn all() -> [Hard; 5] {
+        [
+            many_pages(),
+            shared_bytes(),
+            linked_pages(),
+            long_chains(),
+            deep_pages(),
+        ]
+    }
+
+    /// Gives the pair of the page's register with itself, which check refuses with the number.
+    fn refused(name: &'static str, page: &Page, number: u8) -> Hard {
+        let register = page.table();
+        assert_eq!(independent::check(&register), Err(number), "{name}");
+        let hashed = register.len() + key_bytes(page);
+        Hard {
+            name,
+            registers: [register.clone(), register],
+            hashed: [hashed; 2],
+        }
+    }
+}
+
+/// Counts the bytes of the keys in the page and in all pages below it.
+fn key_bytes(page: &Page) -> usize {
+    let links = page.entries.iter().map(|entry| &entry.after);
+    let below = links.chain([&page.left]).flatten();
+    let below: usize = below.map(|link| key_bytes(&link.page)).sum();
+    below + page.keys().iter().map(Vec::len).sum::<usize>()
+}
+
+/// 2,047 keys of layer 6, and keys of layer 0 before, between and after them: 12,289 pages. The
+/// values of the second register are others, so that the two share no page.
+fn many_pages() -> Hard {
+    let layers: Vec<u8> = (0..4_095).map(|n| if n % 2 == 1 { 6 } else { 0 }).collect();
+    let first = set_of_layers(&layers);
+    assert_eq!(pages(&first).len(), 12_289);
+    let mut second = first.clone();
+    for value in second.values_mut() {
+        value[0] ^= 1;
+    }
+    let keys: usize = first.keys().map(Vec::len).sum();
+    let tables = [first, second].map(|set: Set| table(&set));
+    Hard {
+        name: "12,289 pages",
+        hashed: tables.each_ref().map(|table| table.len() + keys),
+        registers: tables,
+    }
+}
+
+/// One page of 60,000 keys of 256 bytes, of which each shares 252 or more with the one before.
+fn shared_bytes() -> Hard {
+    let start = [&[b'a'; 100][..], b"/", &[b'b'; 151]].concat();
+    let digit = |n: usize| b"0123456789abcdefghijklmnopqrstuvwxyz"[n % 36];
+    let keys: Vec<Vec<u8>> = (0..60_000)
+        .map(|n| {
+            let end = [n / 36 / 36 / 36, n / 36 / 36, n / 36, n].map(digit);
+            [&start[..], &end].concat()
+        })
+        .collect();
+    let page = Page::of_keys(&keys.iter().map(Vec::as_slice).collect::<Vec<_>>());
+    Hard::refused("60,000 keys that share 252 bytes", &page, 5)
+}
+
+/// 27,000 entries, each with a page of one entry below it. Their keys are empty, so that they fit.
+fn linked_pages() -> Hard {
+    let entry = Entry {
+        after: link_to(Page::of_keys(&[b""])),
+        ..Entry::new(b"")
+    };
+    let page = Page {
+        left: None,
+        entries: vec![entry; 27_000],
+    };
+    Hard::refused("27,000 linked pages", &page, 5)
+}
+
+/// 600 entries, and below each a chain of 128 pages with one record.
+fn long_chains() -> Hard {
+    let keys: Vec<String> = (0..600).map(|n| format!("chain/{n:03}")).collect();
+    let mut page = Page::of_keys(&keys.iter().map(String::as_bytes).collect::<Vec<_>>());
+    for (entry, key) in page.entries.iter_mut().zip(&keys) {
+        let last = Page::of_keys(&[format!("{key}.1").as_bytes()]);
+        entry.after = link_to((1..128).fold(last, |page, _| Page::above(page)));
+    }
+    Hard::refused("600 chains of 128 pages", &page, 9)
+}
+
+/// Keys of layers 0 and 1 in turn, in pages 41 and 40 levels below a root that has one entry: all
+/// layers are right but that of the last key.
+fn deep_pages() -> Hard {
+    let layers: Vec<u8> = (0..4_095).map(|n| n % 2).map(|n| n as u8).collect();
+    let below = Page::of_set(&set_of_layers(&layers));
+    let mut root = Page::of_keys(&[b"b/b1"]);
+    root.left = link_to((1..40).fold(below, |page, _| Page::above(page)));
+    Hard::refused("4,095 keys in pages 40 levels deep", &root, 9)
+}
