@@ -19,7 +19,7 @@ use std::time::Duration;
 use subject::Subject;
 use timing::best_times_within;
 
-/// The time for the samples of one task. The whole run stays under two minutes.
+/// The time for the samples of one task. The whole run takes about three minutes.
 const EACH: Duration = Duration::from_millis(600);
 
 /// A call, by the library and by the independent crate, and the hashing it cannot do without.

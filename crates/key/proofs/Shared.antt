@@ -1,6 +1,7 @@
 -- The leading bytes that two keys share: counted up to an index of both, and how the order goes behind them.
 use Prim.Native.Nat.{ℕ, suc, _+_, _≤_, _<_}
-use mathlib.Core.Path.{_≡_, refl, sym, _∙_}
+use mathlib.Core.Path.{_≡_, refl, sym, subst, _∙_}
+use mathlib.Core.Bool.{Bool, true, false, _&&_, false≢true}
 use mathlib.Core.List.{List, [], _∷_}
 use native.Mathlib.Omega.{arith}
 use native.Mathlib.Nat.{not-suc-le-zero}
@@ -12,11 +13,8 @@ use lib.Seq.{drop-cons}
 use borrow.Author.Tests.{eqb-true, eqb-false, eq-eqb, ne-eqb, lt-ltb, le-ltb}
 use borrow.Table.Steps.{cases}
 use Rattle.key.specs.Key.{less, order, shared}
+use Rattle.key.specs.Inner.{SharedSoFar}
 use Rattle.key.specs.declared.order.Order.the-variants.{Less, Equal, Greater}
-
--- i bytes are shared, and those behind them that are shared too make up the count
-abbrev pub SharedSoFar : List ℕ → List ℕ → ℕ → Type 0
-SharedSoFar a b i = i + shared (drop i a) (drop i b) ≡ shared a b
 
 -- the ways that a turn of the loop goes
 module _ (a b : List ℕ) (i : ℕ) (u : SharedSoFar a b i) where
@@ -43,6 +41,30 @@ module _ (a b : List ℕ) (i : ℕ) (u : SharedSoFar a b i) where
           let s : shared (drop i a) (drop i b) ≡ suc (shared (drop (i + 1) a) (drop (i + 1) b)) =
           rw (add-one, drop-cons a i 0 ha, drop-cons b i 0 hb, eq-eqb (getD a i 0) (getD b i 0) e) in
           omega arith
+
+-- ---- several bytes at once
+-- both parts are the same
+pub both-same : (x y : Bool) → x && y ≡ true → (x ≡ true) × (y ≡ true)
+both-same true true h = (refl, refl)
+both-same true false h = absurd (false≢true h)
+both-same false y h = absurd (false≢true h)
+
+pub two-agree : (a b : List ℕ) (i : ℕ) → i + 2 ≤ length a → i + 2 ≤ length b
+    → (r : Bool) → r ≡ eqb (getD a i 0) (getD b i 0) && eqb (getD a (i + 1) 0) (getD b (i + 1) 0) → r ≡ true → SharedSoFar a b i → SharedSoFar a b (i + 2)
+two-agree a b i ha hb r e h u =
+    let w = both-same (eqb (getD a i 0) (getD b i 0)) (eqb (getD a (i + 1) 0) (getD b (i + 1) 0)) (sym e ∙ h) in
+    let one : SharedSoFar a b (i + 1) = byte-agrees a b i u (omega arith) (omega arith) (eqb-true (getD a i 0) (getD b i 0) (w .0)) in
+    let two : SharedSoFar a b (i + 1 + 1) = byte-agrees a b (i + 1) one (omega arith) (omega arith) (eqb-true (getD a (i + 1) 0) (getD b (i + 1) 0) (w .1)) in
+    let place : i + 1 + 1 ≡ i + 2 = omega arith in
+    subst (SharedSoFar a b) place two
+
+-- one half, and then the other
+pub halves-agree : (a b : List ℕ) (i m n : ℕ) → i + m + m ≡ n → (r x y : Bool) → r ≡ x && y
+    → (x ≡ true → SharedSoFar a b i → SharedSoFar a b (i + m)) → (y ≡ true → SharedSoFar a b (i + m) → SharedSoFar a b (i + m + m))
+    → r ≡ true → SharedSoFar a b i → SharedSoFar a b n
+halves-agree a b i m n e r x y q f g h u =
+    let w = both-same x y (sym q ∙ h) in
+    subst (SharedSoFar a b) e (g (w .1) (f (w .0) u))
 
 -- ---- behind the bytes that they share
 -- the first byte there differs

@@ -1,8 +1,8 @@
 use borrow.Author.Needs.{needs}
 use Prim.Native.Nat.{_-_, _≤_}
-use native.Mathlib.Nat.{zero-add}
 use lib.ListN.{length}
-use Rattle.key.proofs.Shared.{SharedSoFar, a-ends, b-ends, byte-differs, byte-agrees}
+use Rattle.key.specs.Inner.{SharedSoFar}
+use Rattle.key.proofs.Shared.{a-ends, b-ends, byte-differs, byte-agrees}
 use Rattle.key.proofs.order.shared_count.Statement.{statement}
 use Rattle.key.proofs.order.shared_count.Tie as tie
 
@@ -12,8 +12,11 @@ Inv-loop a b i₀ i = (i ≤ length a) × SharedSoFar a b i
 abbrev μ-loop : tie.MeasureT-loop
 μ-loop a b i₀ i = length a - i
 
+shared-eights-requires : tie.Need-shared-eights-requires Inv-loop μ-loop
+shared-eights-requires c κs = search needs
+
 loop-holds : tie.Need-loop-holds Inv-loop μ-loop
-loop-holds c = (search needs, zero-add _)
+loop-holds c = (c .shared-eights .ensures .0, c .shared-eights .ensures .2)
 
 returns : tie.Need-returns Inv-loop μ-loop
 returns c = search (needs, b-ends)
@@ -45,6 +48,7 @@ shared-count-spec =
     (tie.spec
     Inv-loop
     μ-loop
+    shared-eights-requires
     loop-holds
     returns
     shared-slice-read-if2
