@@ -1,29 +1,22 @@
 // The calls on registers. A register of at most 13,515 bytes is judged with short rows, so that little is cleared.
-mod bytes; // bytes of outputs
-mod rows; // the calls, with rows that are lent
-mod differ; // the difference of two registers that are accepted
-mod set; // the word of one record in an index
-mod write; // what the writing calls write
-pub mod accepted; // the records of a register that is accepted, for the crates above
-
-use crate::rows::beside_with_rows;
-use crate::rows::check_with_rows;
-use crate::rows::difference_with_rows;
-use crate::rows::list_with_rows;
-use crate::rows::lookup_with_rows;
-use crate::rows::merge_with_rows;
-use crate::rows::remove_with_rows;
-use crate::rows::run_with_rows;
-use crate::rows::set_value_with_rows;
 use answer::Answer;
 use answer::Differed;
+use calls::rows::beside_with_rows;
+use calls::rows::check_with_rows;
+use calls::rows::difference_with_rows;
+use calls::rows::list_with_rows;
+use calls::rows::lookup_with_rows;
+use calls::rows::merge_with_rows;
+use calls::rows::remove_with_rows;
+use calls::rows::run_with_rows;
+use calls::rows::set_value_with_rows;
 ghost use mathlib.Core.Path.{_≡_};
 ghost use lib.ListN.{length};
 ghost use Rattle.promises.specs.Outcome.{checkAnswer, lookupAnswer, listOutcome, listAnswer, listKey, listValue, putOutcome, removeOutcome, joinOutcome, mergeOutcome, answerOf, outputOf};
 ghost use Rattle.promises.specs.Range.{atOrAfterOutcome, beforeOutcome, runOutcome};
 ghost use Rattle.promises.specs.Difference.{differenceOutcome, differenceAnswer, differenceOutput};
-ghost use Rattle.register.specs.Beside.{besideOutcome};
-ghost use Rattle.register.specs.Writing.{setOutcome};
+ghost use Rattle.calls.specs.Beside.{besideOutcome};
+ghost use Rattle.calls.specs.Writing.{setOutcome};
 
 // A register of at most so many bytes has at most 255 records, since an entry has at least 53 bytes; put and join may make it 256.
 const SHORT: usize = 13_515;

@@ -1,4 +1,4 @@
-use Rattle.register.specs.Beside.{besideOutcome}
+use Rattle.calls.specs.Beside.{besideOutcome}
 use borrow.Author.Needs.{needs}
 use Rattle.register.proofs.at_or_after.Statement.{statement}
 use Rattle.register.proofs.at_or_after.Tie as tie

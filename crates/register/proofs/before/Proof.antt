@@ -1,4 +1,4 @@
-use Rattle.register.specs.Beside.{besideOutcome}
+use Rattle.calls.specs.Beside.{besideOutcome}
 use borrow.Author.Needs.{needs}
 use Rattle.register.proofs.before.Statement.{statement}
 use Rattle.register.proofs.before.Tie as tie

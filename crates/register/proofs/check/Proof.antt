@@ -1,5 +1,5 @@
 use borrow.Author.Needs.{needs}
-use Rattle.register.proofs.Verdicts.{index-short, chains-short, index-long, chains-long}
+use Rattle.calls.proofs.Verdicts.{index-short, chains-short, index-long, chains-long}
 use Rattle.register.proofs.check.Statement.{statement}
 use Rattle.register.proofs.check.Tie as tie
 

@@ -1,4 +1,4 @@
-use Rattle.register.specs.Writing.{setOutcome}
+use Rattle.calls.specs.Writing.{setOutcome}
 use borrow.Author.Needs.{needs}
 use Rattle.register.proofs.join.Statement.{statement}
 use Rattle.register.proofs.join.Tie as tie

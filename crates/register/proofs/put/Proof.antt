@@ -1,4 +1,4 @@
-use Rattle.register.specs.Writing.{setOutcome}
+use Rattle.calls.specs.Writing.{setOutcome}
 use borrow.Author.Needs.{needs}
 use Rattle.register.proofs.put.Statement.{statement}
 use Rattle.register.proofs.put.Tie as tie

@@ -1,5 +1,5 @@
 use borrow.Author.Needs.{needs}
-use Rattle.register.proofs.Verdicts.{index-short, chains-short, more-short, index-long, chains-long, more-long}
+use Rattle.calls.proofs.Verdicts.{index-short, chains-short, more-short, index-long, chains-long, more-long}
 use Rattle.register.proofs.set_value.Statement.{statement}
 use Rattle.register.proofs.set_value.Tie as tie
 

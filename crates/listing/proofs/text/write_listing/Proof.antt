@@ -1,7 +1,7 @@
 use borrow.Author.Needs.{needs}
 use native.Mathlib.Omega.{arith}
 use Rattle.page.proofs.Tools.{bytes-of}
-use Rattle.register.proofs.Verdicts.{accepted-index, judged-refused, index-long, chains-long}
+use Rattle.calls.proofs.Verdicts.{accepted-index, judged-refused, index-long, chains-long}
 use Rattle.listing.proofs.Verdicts.{index-row, wrote-too-long, wrote-refused, wrote-records, wrote-short}
 use Rattle.listing.proofs.text.write_listing.Statement.{statement}
 use Rattle.listing.proofs.text.write_listing.Tie as tie
