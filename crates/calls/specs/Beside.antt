@@ -1,4 +1,4 @@
--- What at_or_after and before have in common. Contracts inside this crate cite it, and no public contract does.
+-- What at_or_after and before have in common. Contracts inside the library cite it, and no public contract does.
 use Prim.Native.Nat.{ℕ}
 use mathlib.Core.Bool.{Bool, true, false}
 use mathlib.Core.List.{List}
