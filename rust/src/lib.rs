@@ -51,6 +51,7 @@
 // Unsafe code is allowed in the module `sys` alone.
 #![deny(unsafe_code)]
 
+mod c;
 mod refusal;
 #[allow(unsafe_code)]
 mod sys;

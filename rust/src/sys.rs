@@ -1,97 +1,11 @@
 //! The C functions of the library, each behind a safe function. All unsafe code of the crate is
-//! in this module.
+//! in this module; the functions are declared in `c`.
 //!
 //! What every call relies on: the library reads the bytes of its inputs, as many as their lengths
 //! say, and no others, writes the outputs it is lent and nothing else, keeps no pointer and no
 //! state from one call to the next, and returns from every call.
 
-extern "C" {
-    fn mijdegen_digest(input: *const u8, input_len: usize, out: *mut [u8; 32]) -> u64;
-    fn mijdegen_layer(input: *const u8, input_len: usize) -> u64;
-    fn mijdegen_slash(key: *const u8, key_len: usize) -> u64;
-    fn mijdegen_check(reg: *const u8, reg_len: usize) -> u64;
-    fn mijdegen_lookup(reg: *const u8, reg_len: usize, key: *const u8, key_len: usize) -> u64;
-    fn mijdegen_list(
-        reg: *const u8,
-        reg_len: usize,
-        n: u64,
-        out: *mut u8,
-        out_len: usize,
-        value: *mut [u8; 32],
-    ) -> u64;
-    fn mijdegen_at_or_after(
-        reg: *const u8,
-        reg_len: usize,
-        key: *const u8,
-        key_len: usize,
-        out: *mut u8,
-        out_len: usize,
-        value: *mut [u8; 32],
-    ) -> u64;
-    fn mijdegen_before(
-        reg: *const u8,
-        reg_len: usize,
-        key: *const u8,
-        key_len: usize,
-        out: *mut u8,
-        out_len: usize,
-        value: *mut [u8; 32],
-    ) -> u64;
-    fn mijdegen_run(
-        reg: *const u8,
-        reg_len: usize,
-        first: *const u8,
-        first_len: usize,
-        last: *const u8,
-        last_len: usize,
-        out: *mut u8,
-        out_len: usize,
-    ) -> u64;
-    fn mijdegen_put(
-        reg: *const u8,
-        reg_len: usize,
-        key: *const u8,
-        key_len: usize,
-        value: *const u8,
-        value_len: usize,
-        out: *mut u8,
-        out_len: usize,
-    ) -> u64;
-    fn mijdegen_join(
-        reg: *const u8,
-        reg_len: usize,
-        key: *const u8,
-        key_len: usize,
-        value: *const u8,
-        value_len: usize,
-        out: *mut u8,
-        out_len: usize,
-    ) -> u64;
-    fn mijdegen_remove(
-        reg: *const u8,
-        reg_len: usize,
-        key: *const u8,
-        key_len: usize,
-        out: *mut u8,
-        out_len: usize,
-    ) -> u64;
-    fn mijdegen_merge(
-        first: *const u8,
-        first_len: usize,
-        second: *const u8,
-        second_len: usize,
-        out: *mut u8,
-        out_len: usize,
-    ) -> u64;
-    fn mijdegen_difference(
-        first: *const u8,
-        first_len: usize,
-        second: *const u8,
-        second_len: usize,
-        out: *mut u8,
-        out_len: usize,
-    ) -> u64;
-}
+use crate::c::*;
 
 /// Writes the digest of the input, or zeros on refusal, and gives the answer.
 pub(crate) fn digest(input: &[u8], out: &mut [u8; 32]) -> u64 {

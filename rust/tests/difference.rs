@@ -6,8 +6,8 @@ mod common;
 use common::forge::EMPTY;
 use common::lists::Source;
 use common::sets::{
-    of_layer, one_page_below_high, part, rows_of_few_layers, set, set_of_layers, sets_to, value,
-    Kind, COUNTS, HIGH, KINDS,
+    of_layer, one_page_below_high, part, parts, rows_of_few_layers, set, set_of_layers, sets_to,
+    value, Kind, COUNTS, HIGH, KINDS,
 };
 use common::writes::{
     compare_call, compare_lengths, difference_value, expect_outcome, expect_refusal, written, Call,
@@ -256,11 +256,7 @@ fn all_pairs_of_kinds() {
 fn all_parts_of_all_rows_of_few_layers() {
     let mut cases = 0;
     for row in rows_of_few_layers() {
-        let set = set_of_layers(&row);
-        let masks = 0..1_usize << row.len();
-        let parts: Vec<Set> = masks
-            .map(|mask| part(&set, |n| mask >> n & 1 == 1))
-            .collect();
+        let parts = parts(&set_of_layers(&row));
         for first in &parts {
             for second in &parts {
                 if row.len() < 5 || first.len() == 5 || second.len() == 5 {
@@ -312,11 +308,11 @@ fn pages_known_in_other_places() {
     let set = set_of_layers(&[2, 1, 0, 0, 1, 2, 3]);
     let low = of_layer(&set, 0);
     let mut cases = 0;
-    for one in 0..1_usize << 5 {
-        for other in 0..1_usize << 5 {
-            let [first, second] = [one, other].map(|mask| {
-                let high = lacking(&low, &set);
-                let mut made = part(&high, |n| mask >> n & 1 == 1);
+    let parts = parts(&lacking(&low, &set));
+    for one in 0..parts.len() {
+        for other in 0..parts.len() {
+            let [first, second] = [one, other].map(|which| {
+                let mut made = parts[which].clone();
                 made.extend(low.clone());
                 made
             });

@@ -2,9 +2,9 @@
 
 mod common;
 
-use common::calls::{mijdegen_digest, Surrounded};
+use common::calls::{expect_long_inputs_refused, mijdegen_digest, Surrounded};
 use common::{hexadecimal, Random};
-use mijdegen::{digest, Refusal, LONGEST};
+use mijdegen::{digest, LONGEST};
 use std::collections::BTreeSet;
 use std::ptr::{self, NonNull};
 
@@ -124,26 +124,7 @@ fn longest_inputs() {
 
 #[test]
 fn longer_inputs_are_refused() {
-    let bytes = Random::new(4).bytes(2 * LONGEST + 64);
-    // 5 lengths.
-    for more in [1, 2, 64, LONGEST, LONGEST + 64] {
-        let input = &bytes[..LONGEST + more];
-        assert_eq!(
-            digest(input),
-            Err(Refusal::TooLong),
-            "length {}",
-            input.len()
-        );
-    }
-}
-
-/// A length whose low 32 bits alone would be a short input. The memory is never written, so the
-/// system only sets addresses aside.
-#[cfg(target_pointer_width = "64")]
-#[test]
-fn a_length_over_32_bits_is_refused() {
-    let input = vec![0; (1 << 32) + 3];
-    assert_eq!(digest(&input), Err(Refusal::TooLong));
+    expect_long_inputs_refused(|input| digest(input));
 }
 
 /// Calls the C function with an output of 32 bytes 0xAA inside a longer buffer, at the offset.
@@ -156,8 +137,13 @@ fn raw_digest(input: &mut [u8], offset: usize) -> (u64, [u8; 32]) {
     // seen below.
     // SAFETY: The pointer and the length are of one slice, and the output has 32 bytes in a
     // buffer of its own.
-    let answer =
-        unsafe { mijdegen_digest(input.as_mut_ptr().cast_const(), input.len(), out.start()) };
+    let answer = unsafe {
+        mijdegen_digest(
+            input.as_mut_ptr().cast_const(),
+            input.len(),
+            out.start().cast(),
+        )
+    };
     assert!(input == before, "the input was changed");
     let out = out.contents("the output").try_into().expect("32 bytes");
     (answer, out)
@@ -209,7 +195,7 @@ fn raw_call_does_not_read_an_empty_input() {
     for input in [ptr::null(), NonNull::<u8>::dangling().as_ptr().cast_const()] {
         let mut out = [0xaa; 32];
         // SAFETY: At length 0 the input is not read, and the output has 32 bytes.
-        let answer = unsafe { mijdegen_digest(input, 0, out.as_mut_ptr()) };
+        let answer = unsafe { mijdegen_digest(input, 0, &mut out) };
         assert_eq!((answer, out), (0, expected));
     }
 }

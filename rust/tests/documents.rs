@@ -9,7 +9,7 @@ use std::fs;
 use std::path::Path;
 
 const PROMISES: &str = "docs/PROMISES.md";
-const DOCUMENTS: [&str; 3] = ["README.md", "docs/DECISIONS.md", PROMISES];
+const DOCUMENTS: [&str; 4] = ["README.md", "docs/ARCHITECTURE.md", "docs/DECISIONS.md", PROMISES];
 
 /// The code spans that name nothing in the repository. Each must be in use.
 const LITERALS: [&str; 16] = [

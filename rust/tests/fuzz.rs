@@ -182,7 +182,7 @@ fn compare_digest(input: &[u8]) -> Result<usize, u8> {
 
     let mut out = Surrounded::new(32);
     // SAFETY: The pointer and the length are of one slice, and the output has 32 bytes.
-    let answer = unsafe { mijdegen_digest(input.as_ptr(), input.len(), out.start()) };
+    let answer = unsafe { mijdegen_digest(input.as_ptr(), input.len(), out.start().cast()) };
     assert_eq!(answer, u64::from(expected.err().unwrap_or(0)));
     assert_eq!(out.contents("the digest"), expected.unwrap_or([0; 32]));
     expected.map(|_| 0)

@@ -42,9 +42,14 @@ fn in_rust(parameter: &str) -> String {
 #[test]
 fn the_header_has_the_same_functions() {
     let header = read("rust/include/mijdegen.h");
-    let declared = read("rust/src/sys.rs");
+    let declared = read("rust/src/c.rs");
     let found = functions(&header, "\nuint64_t mijdegen_", ");", in_rust);
-    let expected = functions(&declared, "    fn mijdegen_", ") -> u64;", str::to_string);
+    let expected = functions(
+        &declared,
+        "    pub fn mijdegen_",
+        ") -> u64;",
+        str::to_string,
+    );
     assert_eq!(found, expected);
 
     let names: Vec<String> = found.into_iter().map(|(name, _)| name).collect();

@@ -2,9 +2,9 @@
 
 mod common;
 
-use common::calls::{mijdegen_layer, raw_layer};
+use common::calls::{expect_long_inputs_refused, mijdegen_layer, raw_layer};
 use common::Random;
-use mijdegen::{layer, Refusal, LONGEST};
+use mijdegen::{layer, LONGEST};
 use std::ptr::{self, NonNull};
 
 #[test]
@@ -99,26 +99,7 @@ fn longest_input() {
 
 #[test]
 fn longer_inputs_are_refused() {
-    let bytes = Random::new(4).bytes(2 * LONGEST + 64);
-    // 5 lengths.
-    for more in [1, 2, 64, LONGEST, LONGEST + 64] {
-        let input = &bytes[..LONGEST + more];
-        assert_eq!(
-            layer(input),
-            Err(Refusal::TooLong),
-            "length {}",
-            input.len()
-        );
-    }
-}
-
-/// A length whose low 32 bits alone would be a short input. The memory is never written, so the
-/// system only sets addresses aside.
-#[cfg(target_pointer_width = "64")]
-#[test]
-fn a_length_over_32_bits_is_refused() {
-    let input = vec![0; (1 << 32) + 3];
-    assert_eq!(layer(&input), Err(Refusal::TooLong));
+    expect_long_inputs_refused(|input| layer(input));
 }
 
 #[test]

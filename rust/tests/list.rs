@@ -225,42 +225,21 @@ fn raw_call_does_not_touch_empty_buffers() {
     let register = table(&set(Kind::Ordinary, 1));
     // SAFETY: A buffer of length 0 is neither read nor written, and the others are whole.
     unsafe {
-        let answer = mijdegen_list(ptr::null(), 0, 0, ptr::null_mut(), 0, value.as_mut_ptr());
+        let answer = mijdegen_list(ptr::null(), 0, 0, ptr::null_mut(), 0, &mut value);
         assert_eq!((answer, value), (2, [0; 32]));
 
         value.fill(0xaa);
         let lent = register.as_ptr();
-        let answer = mijdegen_list(
-            lent,
-            register.len(),
-            0,
-            ptr::null_mut(),
-            0,
-            value.as_mut_ptr(),
-        );
+        let answer = mijdegen_list(lent, register.len(), 0, ptr::null_mut(), 0, &mut value);
         assert_eq!((answer, value), (13, [0; 32]));
 
         value.fill(0xaa);
-        let answer = mijdegen_list(
-            lent,
-            register.len(),
-            1,
-            ptr::null_mut(),
-            0,
-            value.as_mut_ptr(),
-        );
+        let answer = mijdegen_list(lent, register.len(), 1, ptr::null_mut(), 0, &mut value);
         assert_eq!((answer, value), (0, [0; 32]));
 
         value.fill(0xaa);
         let empty = EMPTY.as_ptr();
-        let answer = mijdegen_list(
-            empty,
-            EMPTY.len(),
-            0,
-            ptr::null_mut(),
-            0,
-            value.as_mut_ptr(),
-        );
+        let answer = mijdegen_list(empty, EMPTY.len(), 0, ptr::null_mut(), 0, &mut value);
         assert_eq!((answer, value), (0, [0; 32]));
     }
 }

@@ -4,7 +4,7 @@ mod common;
 
 use common::forge::{one_record, EMPTY};
 use common::lists::Source;
-use common::sets::{part, rows_of_few_layers, set, set_of_layers, sets_to, value, KINDS};
+use common::sets::{part, parts, rows_of_few_layers, set, set_of_layers, sets_to, value, KINDS};
 use common::writes::{compare_lengths, expect_table, written, Call};
 use common::Random;
 use independent::{merge_in, set_of, table, Set};
@@ -105,9 +105,9 @@ fn all_parts_of_all_rows_of_few_layers() {
     for row in rows_of_few_layers() {
         let set = set_of_layers(&row);
         let whole = table(&set);
-        for mask in 0..1_usize << row.len() {
-            let first = table(&part(&set, |n| mask >> n & 1 == 0));
-            let second = table(&part(&set, |n| mask >> n & 1 == 1));
+        let parts = parts(&set);
+        for (first, second) in parts.iter().zip(parts.iter().rev()) {
+            let (first, second) = (table(first), table(second));
             expect_table(&first, &Call::merge(&second), whole.len(), &whole);
             cases += 1;
         }

@@ -869,7 +869,7 @@ fn raw_calls_do_not_touch_empty_buffers() {
     unsafe {
         for call in [mijdegen_at_or_after, mijdegen_before] {
             let mut refused = |reg, reg_len, key, key_len, number| {
-                let answer = call(reg, reg_len, key, key_len, no_out, 0, value.as_mut_ptr());
+                let answer = call(reg, reg_len, key, key_len, no_out, 0, &mut value);
                 assert_eq!((answer, value), (number, [0; 32]));
                 value.fill(0xaa);
             };
@@ -878,10 +878,10 @@ fn raw_calls_do_not_touch_empty_buffers() {
             refused(reg, reg_len, none, 0, 7);
             refused(EMPTY.as_ptr(), 7, key, 4, 12);
         }
-        let found = mijdegen_at_or_after(reg, reg_len, key, 4, no_out, 0, value.as_mut_ptr());
+        let found = mijdegen_at_or_after(reg, reg_len, key, 4, no_out, 0, &mut value);
         assert_eq!((found, value), (13, [0; 32]));
         value.fill(0xaa);
-        let found = mijdegen_before(reg, reg_len, later, 4, no_out, 0, value.as_mut_ptr());
+        let found = mijdegen_before(reg, reg_len, later, 4, no_out, 0, &mut value);
         assert_eq!((found, value), (13, [0; 32]));
 
         assert_eq!(mijdegen_run(none, 0, none, 0, none, 0, no_out, 0), 2);

@@ -34,7 +34,7 @@ pub enum Differed {
 }
 
 // The number of a refusal.
-pub fn number(refusal: Refusal) -> u64
+pub fn number_of(refusal: Refusal) -> u64
     ensures { λ r. ⌜ r ≡ numberOf refusal ⌝ }
 {
     match refusal {
@@ -61,7 +61,7 @@ pub fn encode(answer: Answer) -> u64
 {
     match answer {
         Answer::Done(value) => 256 * (value as u64),
-        Answer::Refused(refusal) => number(refusal),
+        Answer::Refused(refusal) => number_of(refusal),
     }
 }
 
@@ -72,6 +72,6 @@ pub fn encode_difference(differed: Differed) -> u64
 {
     match differed {
         Differed::Found(length, opened) => 256 * (length as u64 + 0x100_0000 * (opened as u64)),
-        Differed::Refused(refusal) => number(refusal),
+        Differed::Refused(refusal) => number_of(refusal),
     }
 }

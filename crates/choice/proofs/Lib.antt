@@ -1,5 +1,4 @@
 pub mod Weaving
+pub mod Sifting
 pub mod Choosing
 pub mod Turns
-pub mod WordLaws
-pub mod Placing

@@ -1,5 +1,5 @@
--- Two sets woven into one: with one record it is an insertion, and with the greater values a merge. And a set without one of its records.
-use Prim.Native.Nat.{ℕ, zero, suc, _+_, _≤_, _<_}
+-- Two sets combined, case by case. Two sets woven into one: with one record it is an insertion, and with the greater values a merge. And a set without one of its records.
+use Prim.Native.Nat.{ℕ, zero, suc, _+_, _<_}
 use mathlib.Core.Path.{_≡_, refl, sym, ap, _∙_}
 use mathlib.Core.Bool.{true, false}
 use mathlib.Core.Option.{some}
@@ -14,55 +14,57 @@ use Rattle.tree.specs.Record.{Record}
 use Rattle.promises.specs.Map.{find, insert, put, greater, join, remove, merge}
 use Rattle.row.specs.Row.{nothing}
 use Rattle.row.specs.Search.{keyAt, countBelow, countUpTo}
-use Rattle.choice.specs.Choice.{choiceOf, before, weave}
+use Rattle.choice.specs.Choice.{Rule, combineBefore, combined, weaving, choiceOf, weave}
 use Rattle.promises.proofs.MapLaws.{Before, Above, Sorted, above-before, insert-before, insert-here, insert-later, find-here, find-later, remove-here, remove-later}
 
--- ---- weave, case by case
-module _ (choose : List ℕ → List ℕ → List ℕ) where
-  pub weave-none : (rs : List Record) → weave choose [] rs ≡ rs
-  unfolding weave
-  weave-none rs = refl
+-- ---- two sets combined, case by case
+module _ (rule : Rule) where
+  pub combined-none : (rs : List Record) → combined rule [] rs ≡ rs
+  unfolding combined
+  combined-none rs = refl
 
   module _ (x : Record) (m : List Record) where
-    weave-end : weave choose (x ∷ m) [] ≡ x ∷ weave choose m []
-    unfolding weave before
-    weave-end = refl
+    pub combined-end : combined rule (x ∷ m) [] ≡ rule .alone x ++ combined rule m []
+    unfolding combined combineBefore
+    combined-end = refl
 
     module _ (r : Record) (rs : List Record) where
-      pub weave-first : Before (x .key) (r .key) → weave choose (x ∷ m) (r ∷ rs) ≡ x ∷ weave choose m (r ∷ rs)
-      unfolding weave before
-      weave-first h = rw h
+      pub combined-first : Before (x .key) (r .key) → combined rule (x ∷ m) (r ∷ rs) ≡ rule .alone x ++ combined rule m (r ∷ rs)
+      unfolding combined combineBefore
+      combined-first h = rw h
 
-      pub weave-second : Before (r .key) (x .key) → weave choose (x ∷ m) (r ∷ rs) ≡ r ∷ weave choose (x ∷ m) rs
-      unfolding weave before
-      weave-second h = rw (h, less-asymmetric (r .key) (x .key) h)
+      pub combined-second : Before (r .key) (x .key) → combined rule (x ∷ m) (r ∷ rs) ≡ r ∷ combined rule (x ∷ m) rs
+      unfolding combined combineBefore
+      combined-second h = rw (h, less-asymmetric (r .key) (x .key) h)
 
-      pub weave-both : x .key ≡ r .key
-          → weave choose (x ∷ m) (r ∷ rs) ≡ record { key = x .key; val = choose (x .val) (r .val) } ∷ weave choose m rs
-      unfolding weave before
-      weave-both e = rw (less-same (x .key) (r .key) e, less-same (r .key) (x .key) (sym e))
+      pub combined-both : x .key ≡ r .key → combined rule (x ∷ m) (r ∷ rs) ≡ rule .both x r ++ combined rule m rs
+      unfolding combined combineBefore
+      combined-both e = rw (less-same (x .key) (r .key) e, less-same (r .key) (x .key) (sym e))
 
+-- ---- two sets woven
+module _ (choose : List ℕ → List ℕ → List ℕ) where
+  module _ (x : Record) (m : List Record) where
     -- a record before all of the second's comes first
     weave-above : (rs : List Record) → Above (x .key) rs → weave choose (x ∷ m) rs ≡ x ∷ weave choose m rs
-    weave-above [] a = weave-end
-    weave-above (r ∷ rs) a = weave-first r rs (a .0)
+    weave-above [] a = combined-end (weaving choose) x m
+    weave-above (r ∷ rs) a = combined-first (weaving choose) x m r rs (a .0)
 
   pub weave-whole : (m : List Record) → weave choose m [] ≡ m
-  weave-whole [] = weave-none []
-  weave-whole (x ∷ m) = weave-end x m ∙ ap (λ (l : List Record). x ∷ l) (weave-whole m)
+  weave-whole [] = combined-none (weaving choose) []
+  weave-whole (x ∷ m) = combined-end (weaving choose) x m ∙ ap (λ (l : List Record). x ∷ l) (weave-whole m)
 
   -- the second's first record may be inserted before the rest
   pub weave-insert : (r : Record) (m rs : List Record) → Above (r .key) rs → weave choose m (r ∷ rs) ≡ weave choose (insert choose r m) rs
   unfolding insert
-  weave-insert r [] rs a = weave-none (r ∷ rs) ∙ sym (weave-above r [] rs a ∙ ap (λ (l : List Record). r ∷ l) (weave-none rs))
+  weave-insert r [] rs a = combined-none (weaving choose) (r ∷ rs) ∙ sym (weave-above r [] rs a ∙ ap (λ (l : List Record). r ∷ l) (combined-none (weaving choose) rs))
   weave-insert r (x ∷ m) rs a =
       less-connected (r .key) (x .key)
-      (λ h. weave-second x m r rs h ∙ sym (weave-above r (x ∷ m) rs a) ∙ rw (insert-before choose r x m h))
+      (λ h. combined-second (weaving choose) x m r rs h ∙ sym (weave-above r (x ∷ m) rs a) ∙ rw (insert-before choose r x m h))
       (λ e.
       let y : Record = record { key = x .key; val = choose (x .val) (r .val) } in
-      weave-both x m r rs (sym e) ∙ sym (weave-above y m rs (rw e at a)) ∙ rw (insert-here choose r x m e))
+      combined-both (weaving choose) x m r rs (sym e) ∙ sym (weave-above y m rs (rw e at a)) ∙ rw (insert-here choose r x m e))
       (λ h.
-      weave-first x m r rs h
+      combined-first (weaving choose) x m r rs h
       ∙ ap (λ (l : List Record). x ∷ l) (weave-insert r m rs a)
       ∙ sym (weave-above x (insert choose r m) rs (above-before (x .key) (r .key) rs h a))
       ∙ rw (insert-later choose r x m h))
@@ -83,16 +85,6 @@ pub weave-merge : (rs m : List Record) → Sorted rs → weave (choiceOf true) m
 unfolding merge join choiceOf
 weave-merge [] m s = weave-whole greater m
 weave-merge (r ∷ rs) m s = weave-insert greater r m rs (s .0) ∙ weave-merge rs (insert greater r m) (s .1)
-
--- ---- no record of the first is lost
-pub weave-left-length : (choose : List ℕ → List ℕ → List ℕ) (m rs : List Record) → length m ≤ length (weave choose m rs)
-weave-left-length choose [] rs = omega arith
-weave-left-length choose (x ∷ m) [] = rw (weave-whole choose (x ∷ m)) (omega arith)
-weave-left-length choose (x ∷ m) (r ∷ rs) =
-    less-connected (x .key) (r .key)
-    (λ h. rw (weave-first choose x m r rs h) (omega (arith, weave-left-length choose m (r ∷ rs))))
-    (λ e. rw (weave-both choose x m r rs e) (omega (arith, weave-left-length choose m rs)))
-    (λ h. rw (weave-second choose x m r rs h) (omega (arith, weave-left-length choose (x ∷ m) rs)))
 
 -- ---- a set without its i-th record
 above-at : (k : List ℕ) (m : List Record) (d : Record) → Above k m → (i : ℕ) → i < length m → Before k (getD m i d .key)
@@ -119,17 +111,17 @@ module _ (k : List ℕ) (d : Record) where
 module _ (choose : List ℕ → List ℕ → List ℕ) (x : Record) where
   -- a record before x stays where it is
   behind : (r : Record) (m l : List Record) → Before (r .key) (x .key) → weave choose m (x ∷ []) ≡ l → weave choose (r ∷ m) (x ∷ []) ≡ r ∷ l
-  behind r m l h e = weave-first choose r m x [] h ∙ ap (λ (y : List Record). r ∷ y) e
+  behind r m l h e = combined-first (weaving choose) r m x [] h ∙ ap (λ (y : List Record). r ∷ y) e
 
   -- where no record has its key, it is inserted
   pub weave-absent : (rs : List Record) (p : ℕ) → p ≡ countBelow (x .key) rs → p ≡ countUpTo (x .key) rs
       → weave choose rs (x ∷ []) ≡ take p rs ++ (x ∷ drop p rs)
   unfolding countBelow countUpTo
-  weave-absent [] zero = λ e f. weave-none choose (x ∷ [])
+  weave-absent [] zero = λ e f. combined-none (weaving choose) (x ∷ [])
   weave-absent [] (suc p) = λ e f. absurd (omega arith)
   weave-absent (r ∷ m) zero =
       cases (less (x .key) (r .key))
-      (λ h. rw h (λ e f. weave-second choose r m x [] h ∙ rw (weave-whole choose (r ∷ m))))
+      (λ h. rw h (λ e f. combined-second (weaving choose) r m x [] h ∙ rw (weave-whole choose (r ∷ m))))
       (λ h. rw h (λ e f. absurd (omega arith)))
   weave-absent (r ∷ m) (suc p) =
       cases (less (r .key) (x .key))
@@ -143,7 +135,7 @@ module _ (choose : List ℕ → List ℕ → List ℕ) (x : Record) where
   weave-there : (rs : List Record) → Sorted rs → (p : ℕ) → p < length rs → keyAt rs p ≡ x .key
       → weave choose rs (x ∷ []) ≡ take p rs ++ (chosenAt rs p ∷ drop (suc p) rs)
   weave-there [] s p h e = absurd (omega arith)
-  weave-there (r ∷ m) s zero h e = weave-both choose r m x [] e ∙ rw (weave-whole choose m, e)
+  weave-there (r ∷ m) s zero h e = combined-both (weaving choose) r m x [] e ∙ rw (weave-whole choose m, e)
   weave-there (r ∷ m) s (suc p) h e =
       behind r m _ (rw e at (above-at (r .key) m nothing (s .0) p (omega arith))) (weave-there m (s .1) p (omega arith) e)
 

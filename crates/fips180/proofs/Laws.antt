@@ -4,7 +4,7 @@ use mathlib.Core.List.{List, [], _∷_}
 use Prim.Native.Nat.{ℕ, _+_, _-_, _/_, _%_, _^_, _<_}
 use native.Mathlib.Omega.{arith}
 use lib.ListN.{length}
-use Rattle.fips180.specs.Bytes.{Bytes}
+use Rattle.bytestring.specs.Bytes.{Bytes}
 use Rattle.fips180.specs.Hash.{words, bytesOf, hash, sha256}
 
 pub length-sha256 : (m : List ℕ) → length (sha256 m) ≡ 32

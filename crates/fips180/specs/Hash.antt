@@ -2,8 +2,9 @@
 use Prim.Native.Nat.{ℕ, zero, suc, _+_, _-_, _*_, _/_, _%_, _^_}
 use mathlib.Core.Bool.{cond}
 use mathlib.Core.List.{List, [], _∷_, _++_}
-use lib.ListN.{length, getD, take, drop, replicate}
+use lib.ListN.{length, getD, take, drop}
 use lib.Dec.{ltb}
+use Rattle.bytestring.specs.Bytes.{zeros}
 use Rattle.fips180.specs.Words.{_⊞_, Ch, Maj, Σ0, Σ1, σ0, σ1}
 use Rattle.fips180.specs.declared.State.{State}
 
@@ -29,9 +30,6 @@ bytes32 x = x / 2 ^ 24 % 256 ∷ x / 2 ^ 16 % 256 ∷ x / 2 ^ 8 % 256 ∷ x % 25
 
 abbrev pub bytes64 : ℕ → List ℕ
 bytes64 x = bytes32 (x / 2 ^ 32) ++ bytes32 x
-
-abbrev pub zeros : ℕ → List ℕ
-zeros n = replicate n 0
 
 -- 5.1.1: the message m of n bytes, a bit 1 and seven bits 0, then k bytes 0, then n in bits as a number of 64 bits.
 abbrev pub ending : List ℕ → ℕ → ℕ → List ℕ
@@ -82,13 +80,13 @@ unfoldable pub compress : State → List ℕ → State
 compress s m = plus (rounds 64 (schedule 64 m) s) s
 
 -- The hash value s after the first k blocks of a padded message.
-unfoldable pub run : ℕ → State → List ℕ → State
-run zero s m = s
-run (suc k) s m = compress (run k s m) (take 64 (drop (64 * k) m))
+unfoldable pub afterBlocks : ℕ → State → List ℕ → State
+afterBlocks zero s m = s
+afterBlocks (suc k) s m = compress (afterBlocks k s m) (take 64 (drop (64 * k) m))
 
 -- The eight words of the message's digest.
 unfoldable pub hash : List ℕ → State
-hash m = run (length (pad m) / 64) H0 (pad m)
+hash m = afterBlocks (length (pad m) / 64) H0 (pad m)
 
 abbrev pub words : State → List ℕ
 words s = s .a ∷ s .b ∷ s .c ∷ s .d ∷ s .e ∷ s .f ∷ s .g ∷ s .h ∷ []

@@ -3,7 +3,7 @@
 ghost use mathlib.Core.Path.{_≡_};
 ghost use Prim.Native.Nat.{_+_, _*_, _/_, _%_, _^_, _≤_};
 ghost use lib.ListN.{length};
-ghost use Rattle.fips180.specs.Words.{Ch, Maj, Σ0, Σ1, σ0, σ1};
+ghost use Rattle.fips180.specs.Words.{Maj, Σ0, Σ1, σ0, σ1};
 ghost use Rattle.fips180.specs.Hash.{word};
 
 // A hash value, and the working variables of the rounds: eight words.
@@ -18,13 +18,7 @@ pub struct State {
     pub h: u32,
 }
 
-// Section 4.1.2: the six functions on words.
-pub fn ch(x: u32, y: u32, z: u32) -> u32
-    ensures { λ r. ⌜ r ≡ Ch x y z ⌝ }
-{
-    (x & y) ^ (!x & z)
-}
-
+// Section 4.1.2: the functions on words but Ch, which the rounds have in a shorter form.
 pub fn maj(x: u32, y: u32, z: u32) -> u32
     ensures { λ r. ⌜ r ≡ Maj x y z ⌝ }
 {

@@ -1,17 +1,16 @@
 -- The row of chains, as the walk fills it.
-use Prim.Native.Nat.{ℕ, suc, _+_, _-_, _*_, _≤_, _<_}
-use mathlib.Core.Path.{_≡_, refl, sym, ap, subst, _∙_}
+use Prim.Native.Nat.{ℕ, suc, _+_, _-_, _*_, _≤_, _<_, zero}
+use mathlib.Core.Path.{_≡_, sym, subst}
 use mathlib.Core.List.{List, [], _∷_, _++_}
 use native.Mathlib.Omega.{arith}
 use native.Mathlib.Nat.{add-zero}
-use lib.ListN.{length, take, drop, getD, set, length-append, length-set}
-use lib.Seq.{getD-set-same, getD-set-other}
+use lib.ListN.{length, take, drop, getD, length-append}
 use Rattle.tree.specs.Tree.{page, Gap, empty, under, Entries, end, entry, items, itemsUnder, itemsFrom}
 use Rattle.tree.specs.Record.{Spelt}
 use Rattle.tree.specs.Table.{SpeltTree, bytesOfPage, tableUnder}
 use Rattle.index.specs.Walk.{Counted, Left}
 use Rattle.index.specs.declared.walk.Walked.{Walked}
-use Rattle.index.specs.Chain.{Chain, labelsOn, chainIf, chains, chainsUnder, chainsFrom, onlyLink, LabelsAt, ChainWords, ChainsAt}
+use Rattle.index.specs.Chain.{Chain, labelsOn, chainIf, chains, chainsUnder, chainsFrom, onlyLink, LabelsAt, ChainsAt, noChain, ChainWords}
 
 -- ---- rows
 pub row-append : (s row : List ℕ) (k : ℕ) (cs ds : List Chain) → ChainsAt s row k cs → ChainsAt s row (k + length cs) ds → ChainsAt s row k (cs ++ ds)
@@ -107,3 +106,13 @@ mutual
         length-append (chainsUnder (from + 1) at [] g) (chainsFrom (from + 1 + length (itemsUnder g)) (at + length (tableUnder g)) es),
         length-append (itemsUnder g) (itemsFrom es),
       )
+
+-- ---- a chain of a row, by its number
+pub words-at : (s row : List ℕ) (k : ℕ) (cs : List Chain) → ChainsAt s row k cs → (i : ℕ) → i < length cs → 2 * (k + i) + 1 < length row
+    → ChainWords s (getD row (2 * (k + i)) 0) (getD row (2 * (k + i) + 1) 0) (getD cs i noChain)
+unfolding ChainsAt
+words-at s row k [] w i h g = absurd (omega arith)
+words-at s row k (c ∷ cs) w zero h g = let e : k + 0 ≡ k = add-zero k in rw e (w .0 (omega arith))
+words-at s row k (c ∷ cs) w (suc i) h g =
+    let e : k + suc i ≡ suc k + i = omega arith in
+    rw e (words-at s row (suc k) cs (w .1) i (omega arith) (omega arith))

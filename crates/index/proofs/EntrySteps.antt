@@ -8,29 +8,31 @@ use native.Mathlib.Numerals.{add-one}
 use native.Mathlib.Nat.{sub-zero}
 use lib.ListN.{length, take, drop, length-append, length-take}
 use lib.Dec.{eqb}
+use lib.Seq.{take-nil}
+use Rattle.limits.specs.Limits.{deepest}
+use Rattle.bytestring.specs.Bytes.{Bytes}
 use Rattle.key.specs.Key.{shared}
-use Rattle.fips180.specs.Bytes.{Bytes}
 use Rattle.page.specs.Reading.{read, Reader, andThen, times}
 use Rattle.page.specs.Page.{RawEntry, entryBytes, entry as entryReader}
-use Rattle.page.specs.Place.{Reads, stopped, linkAt, entryAt, EntryHere, Located, LocatedIs, PageIs}
-use Rattle.page.specs.declared.reading.Stop.{Stop}
-use Rattle.page.specs.declared.reading.EntryAt.{EntryAt}
-use Rattle.page.specs.declared.reading.EntryRead.{EntryRead}
-use Rattle.page.specs.declared.reading.EntryRead.the-variants.{EntryStop}
-use Rattle.page.specs.declared.reading.PageRead.{PageRead}
+use Rattle.page_reader.specs.Place.{Reads, linkAt, entryAt, EntryHere, Located, LocatedIs, PageIs}
+use Rattle.page_reader.specs.declared.Stop.{Stop}
+use Rattle.page_reader.specs.declared.EntryAt.{EntryAt}
+use Rattle.page_reader.specs.declared.EntryRead.{EntryRead}
+use Rattle.page_reader.specs.declared.EntryRead.the-variants.{EntryStop}
+use Rattle.page_reader.specs.declared.PageRead.{PageRead}
 use Rattle.page.proofs.Readers.{read-sub, andThen-inv}
-use Rattle.page.proofs.Places.{then-stops}
-use Rattle.page.proofs.Located.{entry-place}
+use Rattle.page_reader.proofs.Places.{then-stops}
+use Rattle.page_reader.proofs.Located.{entry-place}
+use Rattle.page_keys.specs.Buffer.{HoldsKey, Extended, PrefixIs}
 use Rattle.tree.specs.Tree.{page, Gap, empty, under, Entries, end, entry, itemsUnder}
 use Rattle.tree.specs.Record.{Spelt, recordOf}
-use Rattle.tree.specs.Table.{linkOf, tableUnder, readUnder, readFrom, readTree, deepest}
+use Rattle.tree.specs.Table.{linkOf, tableUnder, readUnder, readFrom, readTree}
 use Rattle.tree.specs.Judge.{prefixesRight, prefixesRightUnder, prefixesRightFrom}
 use Rattle.tree.specs.Place.{lengthOfEntry}
 use Rattle.index.specs.Slot.{slots, slotsUnder, slotsFrom, filled, filledUnder, filledFrom}
-use Rattle.index.specs.Buffer.{HoldsKey, Extended, PrefixIs}
 use Rattle.index.specs.Chain.{chains, chainsUnder, chainsFrom, LabelsAt}
-use Rattle.index.specs.Walk.{holding, Moved, Outcome, PageSays, EntriesSay, Taken}
-use Rattle.index.specs.declared.walk.State.{State}
+use Rattle.index.specs.Walk.{holding, Moved, PartWalked, PageSays, EntriesSay, Taken}
+use Rattle.index.specs.declared.walk.WalkState.{WalkState}
 use Rattle.index.specs.declared.walk.Walked.{Walked}
 use Rattle.index.specs.declared.walk.Walked.the-variants.{Whole, Stopped}
 use Rattle.index.proofs.Moves.{moved-none, moved-seq}
@@ -44,24 +46,24 @@ located-is s at w e = subst (LocatedIs s at) e w
 pub page-is : (s : List ℕ) (at : ℕ) {r x : PageRead} → PageIs s at r → r ≡ x → PageIs s at x
 page-is s at w e = subst (PageIs s at) e w
 
-pub says-is : (s index row last : List ℕ) (level link above : ℕ) (st : State) (index′ row′ last′ : List ℕ) {r x : Walked}
+pub says-is : (s index row last : List ℕ) (level link above : ℕ) (st : WalkState) (index′ row′ last′ : List ℕ) {r x : Walked}
     → PageSays s index row last level link above st r index′ row′ last′ → r ≡ x → PageSays s index row last level link above st x index′ row′ last′
 says-is s index row last level link above st index′ row′ last′ w e = subst (λ (y : Walked). PageSays s index row last level link above st y index′ row′ last′) e w
 
 -- ---- gaps
 -- what is under the gap whose link stands at `link`, or nothing where `link` is 0
-abbrev pub GapSays : List ℕ → List ℕ → List ℕ → List ℕ → ℕ → ℕ → State → Walked → List ℕ → List ℕ → List ℕ → Type 0
+abbrev pub GapSays : List ℕ → List ℕ → List ℕ → List ℕ → ℕ → ℕ → WalkState → Walked → List ℕ → List ℕ → List ℕ → Type 0
 GapSays s index row last level link st r index′ row′ last′ =
-    Outcome s index row last 0 (readUnder (readTree (deepest - suc level)) (linkAt s link) (drop (st .next) s)) (slotsUnder (level + 1) (st .next))
+    PartWalked s index row last 0 (readUnder (readTree (deepest - suc level)) (linkAt s link) (drop (st .next) s)) (slotsUnder (level + 1) (st .next))
     (chainsUnder (st .count) (st .next) []) prefixesRightUnder filledUnder st r index′ row′ last′
 
-pub gap-none : (s index row last : List ℕ) (level link : ℕ) (st : State) → link ≡ 0 → st .next ≤ length s
+pub gap-none : (s index row last : List ℕ) (level link : ℕ) (st : WalkState) → link ≡ 0 → st .next ≤ length s
     → GapSays s index row last level link st (Whole st) index row last
 unfolding readUnder linkAt slots chains prefixesRight filled
 gap-none s index row last level link st e h =
     rw e (record { what = empty; reads = refl; few = omega arith; fewChains = omega arith; moved = moved-none h })
 
-gap-some : (s index row last : List ℕ) (level k : ℕ) (st : State) (r : Walked) (index′ row′ last′ : List ℕ) → suc k + 32 ≤ length s
+gap-some : (s index row last : List ℕ) (level k : ℕ) (st : WalkState) (r : Walked) (index′ row′ last′ : List ℕ) → suc k + 32 ≤ length s
     → PageSays s index row last (level + 1) (suc k) 0 st r index′ row′ last′ → GapSays s index row last level (suc k) st r index′ row′ last′
 unfolding PageSays LabelsAt readUnder linkAt slots chains prefixesRight filled holding
 gap-some s index row last level k st (Whole st′) index′ row′ last′ fits w =
@@ -77,13 +79,13 @@ gap-some s index row last level k st (Stopped stop) index′ row′ last′ fits
     let o = w (take 32 (drop (suc k) s) ∷ []) refl (omega arith, fits, refl, omega arith) in
     rw (← add-one level) (then-stops _ stop o)
 
-pub gap-page : (s index row last : List ℕ) (level link : ℕ) (st : State) (r : Walked) (index′ row′ last′ : List ℕ) → (link ≡ 0 → ⊥) → link + 32 ≤ length s
+pub gap-page : (s index row last : List ℕ) (level link : ℕ) (st : WalkState) (r : Walked) (index′ row′ last′ : List ℕ) → (link ≡ 0 → ⊥) → link + 32 ≤ length s
     → PageSays s index row last (level + 1) link 0 st r index′ row′ last′ → GapSays s index row last level link st r index′ row′ last′
 gap-page s index row last level zero st r index′ row′ last′ f fits o = absurd (f refl)
 gap-page s index row last level (suc k) st r index′ row′ last′ f fits o = gap-some s index row last level k st r index′ row′ last′ fits o
 
 -- what was read under a gap
-pub gap-ends : (s index row last : List ℕ) (level link : ℕ) (st st′ : State) (index′ row′ last′ : List ℕ) → Bytes s
+pub gap-ends : (s index row last : List ℕ) (level link : ℕ) (st st′ : WalkState) (index′ row′ last′ : List ℕ) → Bytes s
     → (gap : GapSays s index row last level link st (Whole st′) index′ row′ last′)
     → (linkOf (gap .what) ≡ linkAt s link) × (st′ .next ≡ st .next + length (tableUnder (gap .what)))
 gap-ends s index row last level link st st′ index′ row′ last′ slice gap = (
@@ -93,10 +95,10 @@ gap-ends s index row last level link st st′ index′ row′ last′ slice gap 
 
 -- ---- rows of entries
 -- the walk over the n entries from `at` on, after the key `before`, and over all pages below them
-unfoldable pub RestSays : List ℕ → List ℕ → List ℕ → List ℕ → ℕ → ℕ → ℕ → ℕ → List ℕ → State → Walked → List ℕ → List ℕ → List ℕ → Type 0
+unfoldable pub RestSays : List ℕ → List ℕ → List ℕ → List ℕ → ℕ → ℕ → ℕ → ℕ → List ℕ → WalkState → Walked → List ℕ → List ℕ → List ℕ → Type 0
 RestSays s index row last level pg at n before st r index′ row′ last′ =
     (es : List RawEntry) (past : ℕ) → times n entryReader (drop at s) ≡ read es (drop past s)
-    → Outcome s index row last n (readFrom (readTree (deepest - suc level)) es (drop (st .next) s)) (slotsFrom level pg at (st .next) before)
+    → PartWalked s index row last n (readFrom (readTree (deepest - suc level)) es (drop (st .next) s)) (slotsFrom level pg at (st .next) before)
     (chainsFrom (st .count) (st .next)) (prefixesRightFrom before) filledFrom st r index′ row′ last′
 
 times-none : {A : Type 0} (p : Reader A) (n : ℕ) (l rest : List ℕ) (xs : List A) → n ≡ 0 → times n p l ≡ read xs rest → xs ≡ []
@@ -145,7 +147,7 @@ entry-chains from at f g es from₀ from₁ below₀ below₁ p q r z = rw (z, r
 
 -- ---- the loop over the entries of a page
 -- i entries are done and the next stands at `at`; what the walk over those left says tells what the walk over all says
-pub record Onward (s index₀ row₀ last₀ : List ℕ) (level pg first n : ℕ) (st₀ : State) (index row last buffer : List ℕ) (size : ℕ) (st : State) (at i : ℕ) : Type 0 where
+pub record Onward (s index₀ row₀ last₀ : List ℕ) (level pg first n : ℕ) (st₀ : WalkState) (index row last buffer : List ℕ) (size : ℕ) (st : WalkState) (at i : ℕ) : Type 0 where
   pub turns : i ≤ n
   pub ahead : st₀ .next ≤ st .next
   pub within : st .next ≤ length s
@@ -158,11 +160,7 @@ pub record Onward (s index₀ row₀ last₀ : List ℕ) (level pg first n : ℕ
   pub onward : (r : Walked) (index′ row′ last′ : List ℕ) → RestSays s index row last level pg at (n - i) before st r index′ row′ last′
       → EntriesSay s index₀ row₀ last₀ level pg first n st₀ r index′ row′ last′
 
-take-none : (n : ℕ) → take {A = ℕ} n [] ≡ []
-take-none zero = refl
-take-none (suc n) = refl
-
-pub onward-start : (s index row last : List ℕ) (level pg first n : ℕ) (st : State) (buffer : List ℕ) → st .next ≤ length s → st .count + n ≤ st .next
+pub onward-start : (s index row last : List ℕ) (level pg first n : ℕ) (st : WalkState) (buffer : List ℕ) → st .next ≤ length s → st .count + n ≤ st .next
     → st .chains ≤ st .next → first ≤ length s → length buffer ≡ 256 → Onward s index row last level pg first n st index row last buffer 0 st first 0
 unfolding RestSays EntriesSay
 onward-start s index row last level pg first n st buffer h k c f b = record {
@@ -174,11 +172,11 @@ onward-start s index row last level pg first n st buffer h k c f b = record {
   there = f;
   room = b;
   before = [];
-  holds = record { bytes = sym (take-none (length buffer)); size = refl };
+  holds = record { bytes = sym (take-nil (length buffer)); size = refl };
   onward = λ r index′ row′ last′ w. simp sub-zero at w;
 }
 
-module _ {s index₀ row₀ last₀ : List ℕ} {level pg first n : ℕ} {st₀ : State} {index row last buffer : List ℕ} {size : ℕ} {st : State} {at i : ℕ}
+module _ {s index₀ row₀ last₀ : List ℕ} {level pg first n : ℕ} {st₀ : WalkState} {index row last buffer : List ℕ} {size : ℕ} {st : WalkState} {at i : ℕ}
     (so-far : Onward s index₀ row₀ last₀ level pg first n st₀ index row last buffer size st at i) where
   -- no entry is left
   pub onward-end : n ≤ i → EntriesSay s index₀ row₀ last₀ level pg first n st₀ (Whole st) index row last
@@ -209,7 +207,7 @@ module _ {s index₀ row₀ last₀ : List ℕ} {level pg first n : ℕ} {st₀ 
     module _ (slice : Bytes s) (e : EntryAt) (found : Located s at e)
         (fits : Bool) (tested : PrefixIs buffer size s (e .shares) (e .remainder) (e .size) fits) (short : fits ≡ true → e .shares < length buffer)
         (buffer₁ : List ℕ) (size₁ : ℕ) (extended : Extended buffer size s (e .shares) (e .remainder) (e .size) buffer₁ size₁)
-        (index₁ last₁ : List ℕ) (st₁ : State) (taken : Taken index last level pg at buffer₁ size₁ fits st st₁ index₁ last₁) where
+        (index₁ last₁ : List ℕ) (st₁ : WalkState) (taken : Taken index last level pg at buffer₁ size₁ fits st st₁ index₁ last₁) where
       key-held : HoldsKey buffer₁ size₁ (keyAt s e (so-far .before))
       unfolding Extended
       key-held = extended (so-far .before) (so-far .holds)
@@ -234,11 +232,11 @@ module _ {s index₀ row₀ last₀ : List ℕ} {level pg first n : ℕ} {st₀ 
           (omega (arith, m .ahead, m .within, n), m .count, omega (arith, m .chainCount))
 
       -- it, what is under its gap, and the entries after it
-      rest-join : EntryHere s at e → (index₂ row₂ last₂ : List ℕ) (st₂ : State) (es : List RawEntry) (r : Walked) (index′ row′ last′ : List ℕ)
+      rest-join : EntryHere s at e → (index₂ row₂ last₂ : List ℕ) (st₂ : WalkState) (es : List RawEntry) (r : Walked) (index′ row′ last′ : List ℕ)
           → GapSays s index₁ row last₁ level (e .link) st₁ (Whole st₂) index₂ row₂ last₂
-          → Outcome s index₂ row₂ last₂ (n - (i + 1)) (readFrom (readTree (deepest - suc level)) es (drop (st₂ .next) s))
+          → PartWalked s index₂ row₂ last₂ (n - (i + 1)) (readFrom (readTree (deepest - suc level)) es (drop (st₂ .next) s))
           (slotsFrom level pg (e .end) (st₂ .next) (keyAt s e (so-far .before))) (chainsFrom (st₂ .count) (st₂ .next)) (prefixesRightFrom (keyAt s e (so-far .before))) filledFrom st₂ r index′ row′ last′
-          → Outcome s index row last (n - i) (readFrom (readTree (deepest - suc level)) (entryAt s e ∷ es) (drop (st .next) s))
+          → PartWalked s index row last (n - i) (readFrom (readTree (deepest - suc level)) (entryAt s e ∷ es) (drop (st .next) s))
           (slotsFrom level pg at (st .next) (so-far .before)) (chainsFrom (st .count) (st .next)) (prefixesRightFrom (so-far .before)) filledFrom st r index′ row′ last′
       unfolding readFrom prefixesRight filled
       rest-join here index₂ row₂ last₂ st₂ es (Whole st′) index′ row′ last′ gap rest =
@@ -270,7 +268,7 @@ module _ {s index₀ row₀ last₀ : List ℕ} {level pg first n : ℕ} {st₀ 
       link-within : (e .link ≡ 0 → ⊥) → e .link + 32 ≤ length s
       link-within f = omega (arith, found .ends .link (omega (arith, f)), found .ends .value, found .within)
 
-      onward-gap : length buffer₁ ≡ 256 → (index₂ row₂ last₂ : List ℕ) (st₂ : State)
+      onward-gap : length buffer₁ ≡ 256 → (index₂ row₂ last₂ : List ℕ) (st₂ : WalkState)
           → st₁ .next ≤ st₂ .next → st₂ .next ≤ length s → st₂ .count + st₁ .next ≤ st₁ .count + st₂ .next → st₂ .chains + st₁ .next ≤ st₁ .chains + st₂ .next
           → GapSays s index₁ row last₁ level (e .link) st₁ (Whole st₂) index₂ row₂ last₂
           → Onward s index₀ row₀ last₀ level pg first n st₀ index₂ row₂ last₂ buffer₁ size₁ st₂ (e .end) (i + 1)
@@ -297,7 +295,7 @@ module _ {s index₀ row₀ last₀ : List ℕ} {level pg first n : ℕ} {st₀ 
           (gap-none s index₁ row last₁ level (e .link) st₁ h (omega (arith, onward-record, so-far .within)))
 
       -- a page is in the gap after it
-      pub onward-page : length buffer₁ ≡ 256 → (e .link ≡ 0 → ⊥) → (index₂ row₂ last₂ : List ℕ) (got : Walked) (st₂ : State)
+      pub onward-page : length buffer₁ ≡ 256 → (e .link ≡ 0 → ⊥) → (index₂ row₂ last₂ : List ℕ) (got : Walked) (st₂ : WalkState)
           → PageSays s index₁ row last₁ (level + 1) (e .link) 0 st₁ got index₂ row₂ last₂ → got ≡ Whole st₂
           → Onward s index₀ row₀ last₀ level pg first n st₀ index₂ row₂ last₂ buffer₁ size₁ st₂ (e .end) (i + 1)
       onward-page room h index₂ row₂ last₂ got st₂ w q =

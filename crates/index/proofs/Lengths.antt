@@ -6,14 +6,14 @@ use mathlib.Core.List.{List, [], _∷_, _++_}
 use native.Mathlib.Omega.{arith}
 use lib.ListN.{length, take, drop, length-append, length-drop}
 use lib.Seq.{take-at, length-take-le}
-use Rattle.fips180.specs.Bytes.{Bytes}
+use Rattle.bytestring.proofs.Tools.{bytes-drop}
+use Rattle.bytestring.specs.Bytes.{Bytes}
 use Rattle.page.specs.Reading.{read, Reader, times}
 use Rattle.page.specs.Number.{numberBytes, array}
 use Rattle.page.specs.Page.{linkHead, linkBytes, gapBytes, RawEntry, entry as entryReader, RawPage, pageBytes}
-use Rattle.page.specs.Place.{pageStart, linkAt, entryAt, EntryHere, PageHere}
-use Rattle.page.specs.declared.reading.EntryAt.{EntryAt}
-use Rattle.page.specs.declared.reading.PageAt.{PageAt}
-use Rattle.page.proofs.Tools.{bytes-drop}
+use Rattle.page_reader.specs.Place.{pageStart, linkAt, entryAt, EntryHere, PageHere}
+use Rattle.page_reader.specs.declared.EntryAt.{EntryAt}
+use Rattle.page_reader.specs.declared.PageAt.{PageAt}
 use Rattle.page.proofs.Readers.{read-sub, andThen-inv, Spells, step, exactly-spells}
 use Rattle.page.proofs.Numbers.{number-spells}
 use Rattle.page.proofs.Pages.{entry-spells, page-spells}

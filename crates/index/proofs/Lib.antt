@@ -1,6 +1,3 @@
-pub mod Buffers
-pub mod Entries
-pub mod Prefixes
 pub mod Pages
 pub mod ChainRows
 pub mod Records
@@ -11,3 +8,4 @@ pub mod Lengths
 pub mod PageTests
 pub mod EntrySteps
 pub mod PageSteps
+pub mod BarePages

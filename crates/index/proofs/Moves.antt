@@ -1,16 +1,16 @@
 -- The walk's steps one after the other.
-use Prim.Native.Nat.{ℕ, _+_, _≤_}
+use Prim.Native.Nat.{ℕ, _≤_}
 use mathlib.Core.Path.{_≡_, refl, sym, ap, subst, _∙_}
 use mathlib.Core.Bool.{Bool, true, _&&_, and-assoc, and-true}
 use mathlib.Core.List.{List, [], _∷_, _++_, append-assoc, append-nil}
 use native.Mathlib.Omega.{arith}
 use lib.ListN.{length, length-append}
+use Rattle.bytestring.proofs.Tools.{and-inv}
 use Rattle.key.specs.Key.{less, lawful}
-use Rattle.page.proofs.Tools.{and-inv}
 use Rattle.index.specs.Slot.{Slot, keyOf, lawfulSlots, risingAfter, lastAfter}
 use Rattle.index.specs.Chain.{Chain, ChainsAt}
 use Rattle.index.specs.Walk.{Moved}
-use Rattle.index.specs.declared.walk.State.{State}
+use Rattle.index.specs.declared.walk.WalkState.{WalkState}
 use Rattle.index.proofs.ChainRows.{row-append, row-kept}
 
 -- ---- tests on slots one after the other
@@ -35,7 +35,7 @@ rising-append k (x ∷ xs) ys =
 both-hold : (p a b : Bool) {q r : Bool} → q ≡ (p && a) → r ≡ (q && b) → r ≡ (p && (a && b))
 both-hold p a b e f = f ∙ ap (λ x. x && b) e ∙ and-assoc p a b
 
-pub moved-none : {s index row last : List ℕ} {st : State} → st .next ≤ length s → Moved s index row last [] [] true true st st index row last
+pub moved-none : {s index row last : List ℕ} {st : WalkState} → st .next ≤ length s → Moved s index row last [] [] true true st st index row last
 unfolding lawfulSlots risingAfter lastAfter ChainsAt
 moved-none {st = st} h = record {
   ahead = omega arith;
@@ -53,7 +53,7 @@ moved-none {st = st} h = record {
   chained = λ h. tt;
 }
 
-pub moved-seq : {s index row last index₁ row₁ last₁ index₂ row₂ last₂ : List ℕ} {xs ys : List Slot} {cs ds : List Chain} {a b c d : Bool} {st st₁ st₂ : State}
+pub moved-seq : {s index row last index₁ row₁ last₁ index₂ row₂ last₂ : List ℕ} {xs ys : List Slot} {cs ds : List Chain} {a b c d : Bool} {st st₁ st₂ : WalkState}
     → Moved s index row last xs cs a b st st₁ index₁ row₁ last₁ → Moved s index₁ row₁ last₁ ys ds c d st₁ st₂ index₂ row₂ last₂
     → Moved s index row last (xs ++ ys) (cs ++ ds) (a && c) (b && d) st st₂ index₂ row₂ last₂
 moved-seq {s} {row = row} {row₁ = row₁} {row₂ = row₂} {xs = xs} {ys = ys} {cs} {ds} {a} {b} {c} {d} {st} {st₁} m n =

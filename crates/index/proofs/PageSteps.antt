@@ -12,26 +12,27 @@ use lib.ListN.{length, take, drop, getD, set, length-append, length-set, drop-of
 use lib.Seq.{drop-cons, getD-set-same, getD-set-other}
 use borrow.Author.Tests.{ltb-true, ltb-false, eq-eqb, ne-eqb}
 use borrow.Table.Steps.{cases}
-use Rattle.fips180.specs.Bytes.{Bytes}
+use Rattle.limits.specs.Limits.{deepest, most}
+use Rattle.bytestring.specs.Bytes.{Bytes}
 use Rattle.page.specs.Reading.{read, endsEarly, departs, Reader, andThen, times}
 use Rattle.page.specs.Page.{RawEntry, RawPage, entry as entryReader, page as pageReader}
-use Rattle.page.specs.Place.{stopped, linkAt, PageHere, PageIs}
-use Rattle.page.specs.declared.reading.Stop.{Stop}
-use Rattle.page.specs.declared.reading.Stop.the-variants.{EndsEarly, Departs}
-use Rattle.page.specs.declared.reading.PageAt.{PageAt}
-use Rattle.page.specs.declared.reading.PageRead.{PageRead}
-use Rattle.page.specs.declared.reading.PageRead.the-variants.{PageStop}
-use Rattle.page.proofs.Places.{then-stops}
+use Rattle.page_reader.specs.Place.{readStop, linkAt, PageHere, PageIs}
+use Rattle.page_reader.specs.declared.Stop.{Stop}
+use Rattle.page_reader.specs.declared.Stop.the-variants.{EndsEarly, Departs}
+use Rattle.page_reader.specs.declared.PageAt.{PageAt}
+use Rattle.page_reader.specs.declared.PageRead.{PageRead}
+use Rattle.page_reader.specs.declared.PageRead.the-variants.{PageStop}
+use Rattle.page_reader.proofs.Places.{then-stops}
 use Rattle.tree.specs.Tree.{page, Gap, empty, under, Entries, end, entry, items, itemsUnder}
 use Rattle.tree.specs.Record.{Spelt}
-use Rattle.tree.specs.Table.{SpeltTree, linkOf, rawEntries, rawPage, bytesOfPage, tableUnder, readUnder, readFrom, readTree, deepest}
-use Rattle.tree.specs.Judge.{most, prefixesRight, prefixesRightUnder, prefixesRightFrom}
+use Rattle.tree.specs.Table.{SpeltTree, linkOf, rawEntries, rawPage, bytesOfPage, tableUnder, readUnder, readFrom, readTree}
+use Rattle.tree.specs.Judge.{prefixesRight}
 use Rattle.tree.specs.Place.{firstEntry}
-use Rattle.index.specs.Word.{pageIn, linkIn, aboveIn}
-use Rattle.index.specs.Slot.{Slot, slots, slotsUnder, slotsFrom, bare, filled, lawfulSlots, risingAfter, lastAfter}
-use Rattle.index.specs.Chain.{Chain, onlyLink, labelsOn, chainIf, chains, chainsUnder, chainsFrom, LabelsAt, ChainWords, ChainsAt}
-use Rattle.index.specs.Walk.{DepthWord, HoldsWords, SpanWord, ChainNoted, Left, holding, Moved, Outcome, PageSays, EntriesSay, PageTaken, Entered, Counted, WalkSays}
-use Rattle.index.specs.declared.walk.State.{State}
+use Rattle.word.specs.Word.{RecordWord, SpanWord}
+use Rattle.index.specs.Slot.{slots, slotsUnder, slotsFrom, bare, filled, lawfulSlots, risingAfter, lastAfter}
+use Rattle.index.specs.Chain.{Chain, labelsOn, chainIf, chains, chainsUnder, chainsFrom, LabelsAt, ChainWords, ChainsAt}
+use Rattle.index.specs.Walk.{DepthWord, HoldsWords, ChainNoted, Left, holding, Moved, PartWalked, PageSays, EntriesSay, PageTaken, Entered, Counted, WalkSays}
+use Rattle.index.specs.declared.walk.WalkState.{WalkState}
 use Rattle.index.specs.declared.walk.Walked.{Walked}
 use Rattle.index.specs.declared.walk.Walked.the-variants.{Whole, Stopped}
 use Rattle.index.proofs.Moves.{moved-seq}
@@ -50,7 +51,7 @@ tree-end : (n : ℕ) → n ≡ 0 → readTree n [] ≡ endsEarly
 unfolding readTree
 tree-end n e = rw e
 
-module _ (s : List ℕ) (level link above : ℕ) (index row last : List ℕ) (st : State) where
+module _ (s : List ℕ) (level link above : ℕ) (index row last : List ℕ) (st : WalkState) where
   pub too-deep : 129 ≤ level → st .next < length s → PageSays s index row last level link above st (Stopped Departs) index row last
   unfolding PageSays
   too-deep h k labels number leads = rw (drop-cons s (st .next) 0 k) (tree-deep (deepest - level) (drop (suc (st .next)) s) (getD s (st .next) 0) (omega arith))
@@ -68,7 +69,7 @@ tree-page : (level : ℕ) (l : List ℕ) → level < 129 → readTree (deepest -
 unfolding readTree
 tree-page level l h = let e : deepest - level ≡ suc (deepest - suc level) = omega arith in rw e
 
-pub page-stops : (s : List ℕ) (level link above : ℕ) (index row last : List ℕ) (st : State) (got : PageRead) (stop : Stop) → level < 129 → PageIs s (st .next) got → got ≡ PageStop stop
+pub page-stops : (s : List ℕ) (level link above : ℕ) (index row last : List ℕ) (st : WalkState) (got : PageRead) (stop : Stop) → level < 129 → PageIs s (st .next) got → got ≡ PageStop stop
     → PageSays s index row last level link above st (Stopped stop) index row last
 unfolding PageSays
 page-stops s level link above index row last st got stop h w q labels number leads = tree-page level (drop (st .next) s) h ∙ then-stops _ stop (page-is s (st .next) w q)
@@ -93,7 +94,7 @@ page-chains from at labels g end from₀ from₁ below₀ below₁ some o p q r 
 page-chains from at labels g (entry e h es) from₀ from₁ below₀ below₁ some o p q r = rw (r, q, p, o)
 
 -- a page was read, and its test was taken in
-module _ (s index row last : List ℕ) (level link above : ℕ) (st st₁ : State) (p : PageAt)
+module _ (s index row last : List ℕ) (level link above : ℕ) (st st₁ : WalkState) (p : PageAt)
     (slice : Bytes s) (low : level < 129) (here : PageHere s (st .next) p) (taken : PageTaken link p st st₁) where
   page-moved : (g : Gap Spelt (List ℕ)) (es : Entries Spelt (List ℕ)) → linkOf g ≡ linkAt s (p .left) → rawEntries es ≡ here .row .entries
       → Moved s index row last [] [] true (holding link (page g es)) st st₁ index row last
@@ -115,10 +116,10 @@ module _ (s index row last : List ℕ) (level link above : ℕ) (st st₁ : Stat
   }
 
   -- ---- a page with entries: a chain is entered, and noted when all below it was passed
-  module _ (st₂ : State) (entered : Entered st₁ st₂) (labels : List (List ℕ)) (number : length labels - 1 ≡ above)
+  module _ (st₂ : WalkState) (entered : Entered st₁ st₂) (labels : List (List ℕ)) (number : length labels - 1 ≡ above)
       (leads : LabelsAt s link (st .next - 47 * above) labels (st .next)) where
     module _ (g : Gap Spelt (List ℕ)) (es : Entries Spelt (List ℕ)) (left : linkOf g ≡ linkAt s (p .left)) (entries : rawEntries es ≡ here .row .entries)
-        (st′ : State) (index′ row′ last′ row″ : List ℕ) (later : List Chain)
+        (st′ : WalkState) (index′ row′ last′ row″ : List ℕ) (later : List Chain)
         (noted : ChainNoted row′ (st₁ .chains) (st .next) link above (p .end) (st₁ .count) (st′ .count - st₁ .count) (st′ .chains - (st₁ .chains + 1)) row″)
         (m : Moved s index row last (slots level (st .next) (page g es)) later (prefixesRight (page g es)) (filled (page g es)) st₂ st′ index′ row′ last′) where
       abbrev here-chain : Chain
@@ -128,17 +129,17 @@ module _ (s index row last : List ℕ) (level link above : ℕ) (st st₁ : Stat
       counted = omega (arith, m .count, entered .count, taken .count, slots-items level (st .next) (page g es))
 
       -- the words of the chain
-      chain-words : (w v : ℕ) → pageIn w ≡ st .next → linkIn w ≡ link → aboveIn w ≡ above
+      chain-words : (w v : ℕ) → RecordWord w (st .next) link above
           → SpanWord v (p .end) (st₁ .count) (st′ .count - st₁ .count) (st′ .chains - (st₁ .chains + 1))
           → st′ .count ≤ most → length later ≤ length (items (page g es)) → ChainWords s w v here-chain
       unfolding rawPage
-      chain-words w v a b c d few small =
+      chain-words w v a d few small =
           let ends = page-ends s (st .next) p slice here g es left entries in
           record {
-            page = a;
-            above = c ∙ sym number;
-            start = omega (arith, labels-end s link (st .next - 47 * above) labels (st .next) leads);
-            labels = rw (b, c) leads;
+            page = a .page;
+            above = a .third ∙ sym number;
+            start = omega (arith, a .third, labels-end s link (st .next - 47 * above) labels (st .next) leads);
+            labels = rw (a .entry, a .third) leads;
             reads = rw (d .ends, left, entries) (here .whole);
             ends = d .ends ∙ ends;
             within = rw (d .ends) (here .whole .within);
@@ -178,7 +179,7 @@ module _ (s index row last : List ℕ) (level link above : ℕ) (st st₁ : Stat
             getD-set-other (set row′ (2 * st₁ .chains) (z .0)) (2 * st₁ .chains + 1) (2 * st₁ .chains) (z .1) 0 (λ e. omega arith),
             getD-set-same row′ (2 * st₁ .chains) (z .0) 0 (omega arith),
             getD-set-same (set row′ (2 * st₁ .chains) (z .0)) (2 * st₁ .chains + 1) (z .1) 0 (omega (arith, n)),
-          ) (chain-words (z .0) (z .1) (z .3) (z .4) (z .5) (z .6) few small)
+          ) (chain-words (z .0) (z .1) (z .3) (z .4) few small)
 
       chain-moved : length later ≤ length (items (page g es))
           → Moved s index row last (slots level (st .next) (page g es)) (here-chain ∷ later) (prefixesRight (page g es)) (holding link (page g es) && filled (page g es)) st st′ index′ row″ last′
@@ -207,11 +208,11 @@ module _ (s index row last : List ℕ) (level link above : ℕ) (st st₁ : Stat
           }
 
     -- what is under its first gap, and its entries with what is under their gaps
-    page-done : 0 < p .count → (index₁ row₁ last₁ : List ℕ) (st₃ : State) (r : Walked) (index′ row′ last′ row″ : List ℕ)
+    page-done : 0 < p .count → (index₁ row₁ last₁ : List ℕ) (st₃ : WalkState) (r : Walked) (index′ row′ last′ row″ : List ℕ)
         → GapSays s index row last level (p .left) st₂ (Whole st₃) index₁ row₁ last₁
         → EntriesSay s index₁ row₁ last₁ level (st .next) (p .first) (p .count) st₃ r index′ row′ last′
         → Left row′ (st₁ .chains) (st .next) link above (p .end) (st₁ .count) r row″
-        → Outcome s index row last 0 (readTree (deepest - level) (drop (st .next) s)) (slots level (st .next)) (chains (st .count) (st .next) labels)
+        → PartWalked s index row last 0 (readTree (deepest - level) (drop (st .next) s)) (slots level (st .next)) (chains (st .count) (st .next) labels)
         prefixesRight (λ t. holding link t && filled t) st r index′ row″ last′
     unfolding EntriesSay filled prefixesRight
     page-done some index₁ row₁ last₁ st₃ (Whole st′) index′ row′ last′ row″ gap rest noted =
@@ -242,7 +243,7 @@ module _ (s index row last : List ℕ) (level link above : ℕ) (st st₁ : Stat
         let start : st₂ .next ≡ p .end = entered .next ∙ taken .next in
         tree-page level (drop (st .next) s) low ∙ rw (here .whole .reads, ← start, gap .reads) (then-stops _ stop (rest (here .row .entries) (p .past) (here .row .reads)))
 
-  page-stopped : (st₂ : State) → st₂ .next ≡ st₁ .next → (index₁ row₁ last₁ : List ℕ) (stop : Stop) (index′ row′ last′ : List ℕ)
+  page-stopped : (st₂ : WalkState) → st₂ .next ≡ st₁ .next → (index₁ row₁ last₁ : List ℕ) (stop : Stop) (index′ row′ last′ : List ℕ)
       → GapSays s index row last level (p .left) st₂ (Stopped stop) index₁ row₁ last₁
       → PageSays s index row last level link above st (Stopped stop) index′ row′ last′
   unfolding PageSays
@@ -252,7 +253,7 @@ module _ (s index row last : List ℕ) (level link above : ℕ) (st st₁ : Stat
   left-within : (p .left ≡ 0 → ⊥) → p .left + 32 ≤ length s
   left-within f = omega (arith, here .left (omega (arith, f)), here .whole .within)
 
-  module _ (st₂ : State) (entered : Entered st₁ st₂) (some : p .count ≡ 0 → ⊥) where
+  module _ (st₂ : WalkState) (entered : Entered st₁ st₂) (some : p .count ≡ 0 → ⊥) where
     -- nothing is in the gap before its entries
     pub page-none : p .left ≡ 0 → (r : Walked) (index′ row′ last′ row″ : List ℕ)
         → EntriesSay s index row last level (st .next) (p .first) (p .count) st₂ r index′ row′ last′
@@ -263,7 +264,7 @@ module _ (s index row last : List ℕ) (level link above : ℕ) (st st₁ : Stat
         (gap-none s index row last level (p .left) st₂ h (rw (entered .next, taken .next) (here .whole .within))) rest noted
 
     -- a page is in that gap
-    pub page-left : (p .left ≡ 0 → ⊥) → (index₁ row₁ last₁ : List ℕ) (got : Walked) (st₃ : State)
+    pub page-left : (p .left ≡ 0 → ⊥) → (index₁ row₁ last₁ : List ℕ) (got : Walked) (st₃ : WalkState)
         → PageSays s index row last (level + 1) (p .left) 0 st₂ got index₁ row₁ last₁ → got ≡ Whole st₃ → (r : Walked) (index′ row′ last′ row″ : List ℕ)
         → EntriesSay s index₁ row₁ last₁ level (st .next) (p .first) (p .count) st₃ r index′ row′ last′
         → Left row′ (st₁ .chains) (st .next) link above (p .end) (st₁ .count) r row″ → PageSays s index row last level link above st r index′ row″ last′
@@ -365,8 +366,8 @@ module _ (s index row last : List ℕ) (level link above : ℕ) (st st₁ : Stat
       on-filled zero h = absurd (omega arith)
       on-filled (suc before) h = and-true (not (bare t) && filled t)
 
-    on-stops : (p .left ≡ 0 → ⊥) → (stop : Stop) → readTree (deepest - (level + 1)) (drop (st₁ .next) s) ≡ stopped stop
-        → readTree (deepest - level) (drop (st .next) s) ≡ stopped stop
+    on-stops : (p .left ≡ 0 → ⊥) → (stop : Stop) → readTree (deepest - (level + 1)) (drop (st₁ .next) s) ≡ readStop stop
+        → readTree (deepest - level) (drop (st .next) s) ≡ readStop stop
     unfolding readUnder
     on-stops linked stop q =
         tree-page level (drop (st .next) s) low
@@ -397,7 +398,7 @@ least-of true x y n h k = h
 least-of false x y n h k = k
 
 -- how far the walk over a page under a gap goes
-pub page-far : (s index row last : List ℕ) (level link : ℕ) (st : State) (index′ row′ last′ : List ℕ) (got : Walked) (st′ : State)
+pub page-far : (s index row last : List ℕ) (level link : ℕ) (st : WalkState) (index′ row′ last′ : List ℕ) (got : Walked) (st′ : WalkState)
     → (link ≡ 0 → ⊥) → link + 32 ≤ length s → PageSays s index row last level link 0 st got index′ row′ last′ → got ≡ Whole st′
     → (st .next ≤ st′ .next) × (st′ .next ≤ length s) × (st′ .count + st .next ≤ st .count + st′ .next) × (st′ .chains + st .next ≤ st .chains + st′ .next)
     × (st .count ≤ st′ .count) × (st .chains ≤ st′ .chains)
@@ -407,7 +408,7 @@ page-far s index row last level link st index′ row′ last′ got st′ f fits
     (o .moved .ahead, o .moved .within, omega (arith, o .moved .count, o .few), omega (arith, o .moved .chainCount, o .fewChains), omega (arith, o .moved .count), omega (arith, o .moved .chainCount))
 
 -- what was counted before the entries of a page can be taken from what is counted after them
-pub entries-counted : (s index row last : List ℕ) (level at first n : ℕ) (st : State) (index′ row′ last′ : List ℕ) (r : Walked) (es : List RawEntry) (past k from : ℕ)
+pub entries-counted : (s index row last : List ℕ) (level at first n : ℕ) (st : WalkState) (index′ row′ last′ : List ℕ) (r : Walked) (es : List RawEntry) (past k from : ℕ)
     → times n entryReader (drop first s) ≡ read es (drop past s) → from ≤ st .count → k < st .chains
     → EntriesSay s index row last level at first n st r index′ row′ last′ → Counted k from r
 unfolding EntriesSay
@@ -421,7 +422,7 @@ nothing-indexed : (index : List ℕ) → HoldsWords DepthWord index []
 unfolding HoldsWords
 nothing-indexed index i h k = absurd (not-suc-le-zero h)
 
-abbrev startState : State
+abbrev startState : WalkState
 startState = record { next = 0; count = 0; chains = 0; last = 0; prefixes = true; lawful = true; rising = true; filled = true }
 
 pub walk-says : (s index row last : List ℕ) (r : Walked) (index′ row′ last′ : List ℕ) → PageSays s index row last 0 0 0 startState r index′ row′ last′ → WalkSays s r index′ row′

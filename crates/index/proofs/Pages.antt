@@ -5,9 +5,9 @@ use mathlib.Core.Bool.{Bool, true, _&&_}
 use native.Mathlib.Omega.{arith}
 use lib.Dec.{eqb, ltb}
 use borrow.Author.Tests.{ne-eqb, lt-ltb}
-use Rattle.page.specs.declared.reading.PageAt.{PageAt}
+use Rattle.page_reader.specs.declared.PageAt.{PageAt}
 use Rattle.index.specs.Walk.{pageHolds, PageTaken}
-use Rattle.index.specs.declared.walk.State.{State}
+use Rattle.index.specs.declared.walk.WalkState.{WalkState}
 
 -- ---- a page that may stand where it stands
 pub page-has-entry : (link count left : ℕ) → 0 < count → true ≡ pageHolds link count left
@@ -31,7 +31,7 @@ page-has-left (suc link) zero (suc left) h f = lt-ltb 0 (suc left) (omega arith)
 page-has-left (suc link) (suc count) left h f = absurd (omega arith)
 
 -- ---- the test of a page, taken in
-pub page-taken : (link : ℕ) (p : PageAt) (st : State) (holds : Bool) → holds ≡ pageHolds link (p .count) (p .left)
+pub page-taken : (link : ℕ) (p : PageAt) (st : WalkState) (holds : Bool) → holds ≡ pageHolds link (p .count) (p .left)
     → (b : Bool) → b ≡ (st .filled && holds) → PageTaken link p st (record {
       next = p .end;
       count = st .count;

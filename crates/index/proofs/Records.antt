@@ -1,64 +1,23 @@
--- Records: the tests of their keys, and their words in the index.
+-- Records: what the tests of their keys say, and their words in the index.
 use Prim.Native.Nat.{ℕ, _+_, _≤_, _<_}
 use mathlib.Core.Path.{_≡_, refl, sym, ap, _∙_}
-use mathlib.Core.Bool.{Bool, true, false, not, _&&_, and-true, false≢true}
+use mathlib.Core.Bool.{Bool, true, _&&_, and-true}
 use mathlib.Core.List.{List, [], _∷_, _++_}
 use native.Mathlib.Omega.{arith}
 use lib.Dec.{ltb}
 use lib.ListN.{length, take, getD, length-append, length-set, List·getD-append}
 use lib.Seq.{getD-set-same, getD-set-other, getD-at}
-use borrow.Author.Tests.{ltb-true, ltb-false, not-true}
+use borrow.Author.Tests.{ltb-true, ltb-false}
 use borrow.Table.Steps.{cases}
-use Rattle.key.specs.Key.{lawful, less, order}
-use Rattle.key.specs.declared.order.Order.{Order}
-use Rattle.key.specs.declared.order.Order.the-variants.{Less, Equal, Greater}
-use Rattle.key.proofs.Lawful.{long-unlawful}
-use Rattle.page.proofs.Tools.{and-inv}
-use Rattle.key.proofs.Laws.{lawful-length, less-order, order-less}
+use Rattle.bytestring.proofs.Tools.{and-inv}
+use Rattle.key.specs.Key.{lawful, less}
+use Rattle.key.proofs.Laws.{lawful-length}
+use Rattle.page_keys.specs.Buffer.{HoldsKey, LastIs, LawfulIs, RisesIs}
+use Rattle.page_keys.proofs.Buffers.{holds-whole}
 use Rattle.index.specs.Slot.{Slot, keyOf, lawfulSlots, risingAfter, lastAfter}
 use Rattle.index.specs.Chain.{ChainsAt}
-use Rattle.index.specs.Buffer.{HoldsKey}
-use Rattle.index.specs.Walk.{DepthWord, blank, HoldsWords, LastIs, LawfulIs, RisesIs, Noted, Moved, Taken}
-use Rattle.index.specs.declared.walk.State.{State}
-use Rattle.index.proofs.Buffers.{holds-whole}
-
--- ---- the key rule
-module _ (buffer : List ℕ) (size : ℕ) where
-  pub key-too-long : 256 ≤ length buffer → length buffer < size → LawfulIs buffer size false
-  unfolding LawfulIs
-  key-too-long h g k w = sym (long-unlawful k (omega (arith, w .size)))
-
-  pub key-tested : size ≤ length buffer → (r : Bool) → r ≡ lawful (take size buffer) → LawfulIs buffer size r
-  unfolding LawfulIs
-  key-tested h r e k w = e ∙ ap lawful (holds-whole w h)
-
--- ---- the order of keys
-not-less : (a b : List ℕ) (o : Order) → o ≡ order a b → (o ≡ Less → ⊥) → false ≡ less a b
-not-less a b o e f = cases (less a b) (λ q. absurd (f (e ∙ less-order a b q))) (λ q. sym q)
-
-module _ (last : List ℕ) (n : ℕ) (buffer : List ℕ) (size : ℕ) where
-  pub no-last : length last < n → RisesIs last n buffer size false
-  unfolding RisesIs
-  no-last h j k v w g = absurd (omega (arith, v .room))
-
-  pub no-key : length buffer < size → RisesIs last n buffer size false
-  unfolding RisesIs
-  no-key h j k v w g = absurd (omega arith)
-
-  module _ (o : Order) (e : o ≡ order (take n last) (take size buffer)) where
-    pub key-greater : o ≡ Less → RisesIs last n buffer size true
-    unfolding RisesIs
-    key-greater q j k v w g = rw (← v .bytes, ← holds-whole w g) (sym (order-less (take n last) (take size buffer) (sym e ∙ q)))
-
-    key-not-greater : (o ≡ Less → ⊥) → RisesIs last n buffer size false
-    unfolding RisesIs
-    key-not-greater f j k v w g = rw (← v .bytes, ← holds-whole w g) (not-less (take n last) (take size buffer) o e f)
-
-    pub key-equal : o ≡ Equal → RisesIs last n buffer size false
-    key-equal q = key-not-greater (λ p. let z : _≡_ {A = ℕ} 0 1 = cc in omega arith)
-
-    pub key-less : o ≡ Greater → RisesIs last n buffer size false
-    key-less q = key-not-greater (λ p. let z : _≡_ {A = ℕ} 0 1 = cc in omega arith)
+use Rattle.index.specs.Walk.{DepthWord, blank, HoldsWords, Noted, Moved, Taken}
+use Rattle.index.specs.declared.walk.WalkState.{WalkState}
 
 -- ---- the index
 module _ (index index′ : List ℕ) (before : List Slot) (x : Slot) (noted : Noted index (length before) (x .page) (x .entry) (x .depth) index′) where
@@ -78,7 +37,7 @@ module _ (index index′ : List ℕ) (before : List Slot) (x : Slot) (noted : No
   word-here q =
       let z = noted .room q in
       rw (z .1, getD-set-same index (length before) (z .0) 0 q, getD-at before x [] blank (length before) refl)
-      (record { page = z .2; entry = z .3; depth = z .4 })
+      (z .2)
 
   noted-length : length index′ ≡ length index
   noted-length =
@@ -99,13 +58,13 @@ module _ (index index′ : List ℕ) (before : List Slot) (x : Slot) (noted : No
       rw here (word-here (omega (arith, noted-length))))
 
 -- ---- one record more
-module _ (index last buffer : List ℕ) (level pg at size : ℕ) (fits : Bool) (st : State) (index′ last′ : List ℕ)
+module _ (index last buffer : List ℕ) (level pg at size : ℕ) (fits : Bool) (st : WalkState) (index′ last′ : List ℕ)
     (room : length buffer ≡ 256) (same : length last ≡ 256) (stays : length last′ ≡ length last)
     (isLawful : Bool) (el : LawfulIs buffer size isLawful)
     (rises : Bool) (er : RisesIs last (st .last) buffer size rises)
     (noted : Noted index (st .count) pg at level index′) (kept : size ≤ length buffer → take size last′ ≡ take size buffer)
     (a b c : Bool) (ea : a ≡ (st .prefixes && fits)) (eb : b ≡ (st .lawful && isLawful)) (ec : c ≡ (st .rising && rises)) where
-  abbrev after : State
+  abbrev after : WalkState
   after = record {
     next = st .next;
     count = st .count + 1;

@@ -9,6 +9,7 @@ use native.Mathlib.Omega.{arith}
 use lib.ListN.{length, getD, length-map, length-append}
 use lib.Dec.{eqb}
 use borrow.Author.Tests.{eqb-true, eq-eqb}
+use Rattle.bytestring.proofs.Tools.{All, and-inv}
 use Rattle.key.specs.Key.{less, lawful}
 use Rattle.key.specs.Layer.{layerOf}
 use Rattle.tree.specs.Tree.{page, Gap, empty, under, Entries, end, entry, items, itemsUnder, itemsFrom}
@@ -16,7 +17,6 @@ use Rattle.tree.specs.Record.{Record, Spelt, recordOf, keyed, keyedUnder, keyed
 use Rattle.tree.specs.Table.{SpeltTree, bytesOfPage, tableUnder}
 use Rattle.tree.specs.Judge.{allLawful, rising}
 use Rattle.tree.specs.Place.{lengthOfEntry, firstEntry, places, placesUnder, placesFrom}
-use Rattle.page.proofs.Tools.{All, and-inv}
 use Rattle.tree.proofs.Laws.{depths, depthsUnder, depthsFrom, items-depths, Level, layerOfRecord}
 use Rattle.index.specs.Slot.{Slot, slots, slotsUnder, slotsFrom, keyOf, lawfulSlots, risingAfter, levelSlots}
 

@@ -5,28 +5,30 @@ use mathlib.Core.List.{List, [], _∷_, _++_, append-assoc, append-nil}
 use native.Mathlib.Omega.{arith}
 use lib.ListN.{length, take, drop, getD, length-append, length-drop}
 use lib.Seq.{take-at, drop-at, drop-drop}
-use Rattle.fips180.specs.Bytes.{Bytes}
+use Rattle.limits.specs.Limits.{deepest}
+use Rattle.bytestring.proofs.Tools.{All, all-append, all-at}
+use Rattle.bytestring.specs.Bytes.{Bytes}
 use Rattle.page.specs.Reading.{read, Reader, exactly, concat}
 use Rattle.page.specs.Number.{plainNumber, byteString, array, numberBytes}
 use Rattle.page.specs.Page.{linkHead, linkBytes, gapBytes, RawEntry, entryBytes, entry as entryReader, RawPage, pageBytes}
-use Rattle.page.specs.Place.{Reads, stopped, entryAt, EntryHere, pageStart}
-use Rattle.page.specs.declared.reading.Stop.{Stop}
-use Rattle.page.specs.declared.reading.Stop.the-variants.{EndsEarly, Departs}
-use Rattle.page.specs.declared.reading.EntryAt.{EntryAt}
+use Rattle.page_reader.specs.Place.{Reads, readStop, entryAt, EntryHere, pageStart}
+use Rattle.page_reader.specs.declared.Stop.{Stop}
+use Rattle.page_reader.specs.declared.Stop.the-variants.{EndsEarly, Departs}
+use Rattle.page_reader.specs.declared.EntryAt.{EntryAt}
 use Rattle.page.proofs.Readers.{endsEarly≢read, departs≢read}
 use Rattle.page.proofs.Numbers.{number-reads}
 use Rattle.page.proofs.Pages.{GoodEntry, GoodPage, entry-reads}
+use Rattle.page_keys.specs.Keys.{keyAfter}
 use Rattle.tree.specs.Tree.{page, Gap, empty, under, Entries, end, entry}
 use Rattle.tree.specs.Record.{Spelt, recordOf}
-use Rattle.tree.specs.Table.{SpeltTree, linkOf, rawEntries, rawPage, bytesOfPage, table, tableUnder, tableFrom, tableOf, readTree, deepest}
+use Rattle.tree.specs.Table.{SpeltTree, linkOf, rawEntries, rawPage, bytesOfPage, table, tableUnder, tableFrom, tableOf, readTree}
 use Rattle.tree.specs.Judge.{accepted, judge}
 use Rattle.tree.specs.Place.{lengthOfEntry, firstEntry}
-use Rattle.page.proofs.Tools.{All, all-append}
 use Rattle.tree.proofs.Tables.{AllUnder, AllFrom, Good, tree-spells}
 use Rattle.tree.proofs.Accept.{accepted-table}
 use Rattle.index.specs.Slot.{Slot, slots, slotsUnder, slotsFrom, keyOf}
 use Rattle.index.specs.Walk.{blank}
-use Rattle.index.specs.Standing.{keyAfter, Steps, here, next, SlotAt}
+use Rattle.index.specs.Standing.{Steps, here, next, SlotAt}
 
 -- ---- bytes at a place
 -- what follows them
@@ -105,7 +107,7 @@ module _ {A : Type 0} {p : Reader A} {s : List ℕ} {at : ℕ} {a b : A} {m n : 
       let d : drop m s ≡ drop n s = cc in
       omega (arith, v .within, w .within, ap length d, length-drop m s, length-drop n s)
 
-pub read-not-stopped : {A : Type 0} {p : Reader A} {s : List ℕ} {at : ℕ} {a : A} {m : ℕ} → Reads p s at a m → (stop : Stop) → p (drop at s) ≡ stopped stop → ⊥
+pub read-not-stopped : {A : Type 0} {p : Reader A} {s : List ℕ} {at : ℕ} {a : A} {m : ℕ} → Reads p s at a m → (stop : Stop) → p (drop at s) ≡ readStop stop → ⊥
 read-not-stopped v EndsEarly q = endsEarly≢read (sym q ∙ v .reads)
 read-not-stopped v Departs q = departs≢read (sym q ∙ v .reads)
 
@@ -227,11 +229,6 @@ pub slots-stand : (s rest : List ℕ) (t : SpeltTree) → Bytes s → readTree d
 slots-stand s rest t b r =
     let k = tree-spells deepest .back s rest t b r in
     tree-stands s t deepest 0 0 rest (k .1) (k .0)
-
-all-at : {A : Type 0} (P : A → Type 0) (d : A) (l : List A) → All P l → (i : ℕ) → i < length l → P (getD l i d)
-all-at P d [] h i k = absurd (omega arith)
-all-at P d (a ∷ l) h zero k = h .0
-all-at P d (a ∷ l) h (suc i) k = all-at P d l (h .1) i (omega arith)
 
 pub slot-stands : (s rest : List ℕ) (t : SpeltTree) → Bytes s → readTree deepest s ≡ read t rest
     → (i : ℕ) → i < length (slots 0 0 t) → SlotAt s (getD (slots 0 0 t) i blank)

@@ -6,14 +6,15 @@ use mathlib.Core.Option.{some}
 use mathlib.Core.List.{List, [], _∷_, _++_}
 use lib.ListN.{length, take, drop, getD}
 use lib.Dec.{eqb}
+use Rattle.value.specs.Value.{digestLength, digestIn}
+use Rattle.bytestring.specs.Bytes.{equal}
 use Rattle.fips180.specs.Hash.{sha256}
 use Rattle.page.specs.Page.{pageBytes, page as pageReader}
-use Rattle.page.specs.Place.{Reads}
+use Rattle.page_reader.specs.Place.{Reads}
 use Rattle.tree.specs.Tree.{page, Gap, empty, under, Entries, end, entry, items, itemsUnder}
 use Rattle.tree.specs.Record.{Spelt}
 use Rattle.tree.specs.Table.{SpeltTree, rawPage, bytesOfPage, tableUnder}
-use Rattle.tree.specs.Judge.{equal}
-use Rattle.index.specs.Word.{pageIn, linkIn, aboveIn, endIn, fromIn, recordsIn, belowIn}
+use Rattle.word.specs.Word.{pageIn, linkIn, aboveIn, endIn, fromIn, recordsIn, belowIn}
 
 -- A page without entries leads to one page, by its left link. A chain is such pages, each below the one before, and the page with entries
 -- that they lead to. It has the digests of the links that lead to its pages, from its first page down, and none for the root; the place
@@ -74,9 +75,9 @@ chainsRight (c ∷ cs) = labelsRight (c .labels) (c .here) && chainsRight cs
 -- one comes to the page with entries, at `to`. Link 0 stands for the root, which no link leads to.
 unfoldable pub LabelsAt : List ℕ → ℕ → ℕ → List (List ℕ) → ℕ → Type 0
 LabelsAt s link at [] to = (link ≡ 0) × (at ≡ to)
-LabelsAt s link at (digest ∷ []) to = (0 < link) × (link + 32 ≤ length s) × (take 32 (drop link s) ≡ digest) × (at ≡ to)
+LabelsAt s link at (digest ∷ []) to = (0 < link) × (link + digestLength ≤ length s) × (digestIn s link ≡ digest) × (at ≡ to)
 LabelsAt s link at (digest ∷ (next ∷ more)) to =
-    (0 < link) × (link + 32 ≤ length s) × (take 32 (drop link s) ≡ digest) × (take 47 (drop at s) ≡ onlyLink next)
+    (0 < link) × (link + digestLength ≤ length s) × (digestIn s link ≡ digest) × (take 47 (drop at s) ≡ onlyLink next)
     × LabelsAt s (at + 15) (at + 47) (next ∷ more) to
 
 -- The words of a chain.
@@ -99,16 +100,20 @@ ChainsAt s row k [] = Unit {0}
 ChainsAt s row k (c ∷ cs) =
     (2 * k + 1 < length row → ChainWords s (getD row (2 * k) 0) (getD row (2 * k + 1) 0) c) × ChainsAt s row (suc k) cs
 
+-- What stands past the end of a list of chains.
+pub noChain : Chain
+noChain = record { labels = []; page = 0; here = page empty end; from = 0; records = 0; below = 0 }
+
 -- The label that leads to the page with entries ends the page above it, or is the chain's first.
 unfoldable pub lastLabel : ℕ → ℕ
-lastLabel w = cond (eqb (aboveIn w) 0) (linkIn w) (pageIn w - 32)
+lastLabel w = cond (eqb (aboveIn w) 0) (linkIn w) (pageIn w - digestLength)
 
 -- That label is the digest of the page; the root has none.
 pub record PageLabelled (s : List ℕ) (w v : ℕ) : Type 0 where
   pub ahead : pageIn w ≤ endIn v
   pub within : endIn v ≤ length s
-  pub fits : 0 < linkIn w → lastLabel w + 32 ≤ length s
-  pub digest : 0 < linkIn w → take 32 (drop (lastLabel w) s) ≡ sha256 (take (endIn v - pageIn w) (drop (pageIn w) s))
+  pub fits : 0 < linkIn w → lastLabel w + digestLength ≤ length s
+  pub digest : 0 < linkIn w → digestIn s (lastLabel w) ≡ sha256 (take (endIn v - pageIn w) (drop (pageIn w) s))
 
 -- The same of the first n chains of a row.
 pub record Labelled (s row : List ℕ) (n : ℕ) : Type 0 where

@@ -1,15 +1,12 @@
 -- What stands at the places of a slot: for code that finds a record again in the bytes.
 use Prim.Native.Nat.{ℕ, _+_}
 use mathlib.Core.Path.{_≡_}
-use mathlib.Core.List.{List, [], _++_}
-use lib.ListN.{take, drop}
+use mathlib.Core.List.{List, []}
+use Rattle.value.specs.Value.{valueLength, valueIn}
 use Rattle.page.specs.Page.{RawEntry, entry}
-use Rattle.page.specs.Place.{Reads, pageStart}
+use Rattle.page_reader.specs.Place.{Reads, pageStart}
+use Rattle.page_keys.specs.Keys.{keyAfter}
 use Rattle.index.specs.Slot.{Slot, keyOf}
-
--- The key that an entry spells after the key before it in its page.
-abbrev pub keyAfter : List ℕ → RawEntry → List ℕ
-keyAfter before e = take (e .shares) before ++ e .remainder
 
 -- Entry by entry from one place of a page to another; the first comes after the key j, and the last spells the key k.
 pub data Steps (s : List ℕ) : ℕ → List ℕ → ℕ → List ℕ → Type 0 where
@@ -29,5 +26,5 @@ pub record SlotAt (s : List ℕ) (x : Slot) : Type 0 where
   pub reads : Reads entry s (x .entry) spells past
   pub key : keyAfter before spells ≡ keyOf x
   pub val : spells .val ≡ x .item .val
-  pub value : x .value + 32 ≡ past
-  pub bytes : take 32 (drop (x .value) s) ≡ x .item .val
+  pub value : x .value + valueLength ≡ past
+  pub bytes : valueIn s (x .value) ≡ x .item .val

@@ -1,39 +1,37 @@
 -- What the walk over a register's pages says.
-use Prim.Native.Nat.{ℕ, zero, suc, _+_, _-_, _*_, _^_, _≤_, _<_}
+use Prim.Native.Nat.{ℕ, zero, suc, _+_, _-_, _*_, _≤_, _<_}
 use mathlib.Core.Path.{_≡_}
 use mathlib.Core.Bool.{Bool, true, false, not, _&&_}
 use mathlib.Core.List.{List, [], _∷_, _++_}
-use lib.ListN.{length, take, drop, getD, set}
-use lib.Dec.{eqb}
-use Rattle.key.specs.Key.{lawful, less, shared}
+use lib.ListN.{length, drop, getD, set}
+use Rattle.limits.specs.Limits.{deepest, most}
+use Rattle.key.specs.Key.{lawful}
 use Rattle.key.specs.Layer.{layerOf}
 use Rattle.page.specs.Reading.{Read, read, times}
 use Rattle.page.specs.Page.{RawEntry, entry as entryAt}
-use Rattle.page.specs.Place.{stopped}
-use Rattle.page.specs.declared.reading.PageAt.{PageAt}
-use Rattle.tree.specs.Tree.{page, empty, under, Entries, end, entry, items}
-use Rattle.tree.specs.Record.{Record, Spelt}
-use Rattle.tree.specs.Table.{SpeltTree, readTree, readFrom, deepest}
-use Rattle.tree.specs.Judge.{most, prefixesRight, prefixesRightFrom}
-use Rattle.index.specs.Word.{pageIn, entryIn, layerIn, linkIn, aboveIn, endIn, fromIn, recordsIn, belowIn}
+use Rattle.page_reader.specs.Place.{readStop}
+use Rattle.page_reader.specs.declared.PageAt.{PageAt}
+use Rattle.page_keys.specs.Buffer.{HoldsKey, LastIs}
+use Rattle.tree.specs.Tree.{page, empty, under, end, entry}
+use Rattle.tree.specs.Table.{SpeltTree, readTree, readFrom}
+use Rattle.tree.specs.Judge.{prefixesRight, prefixesRightFrom}
+use Rattle.word.specs.Word.{pageIn, entryIn, layerIn, fromSecond, RecordWord, SpanWord}
 use Rattle.index.specs.Slot.{Slot, slots, slotsFrom, keyOf, lawfulSlots, risingAfter, lastAfter, bare, filled, filledFrom}
 use Rattle.index.specs.Chain.{Chain, chains, chainsFrom, LabelsAt, ChainsAt}
-use Rattle.index.specs.Buffer.{HoldsKey}
-use Rattle.index.specs.declared.walk.State.{State}
+use Rattle.index.specs.declared.walk.WalkState.{WalkState}
 use Rattle.index.specs.declared.walk.Walked.{Walked}
 use Rattle.index.specs.declared.walk.Walked.the-variants.{Whole, Stopped}
 
 -- ---- the index: a word for each record
 -- The word of a slot, as the walk notes it and as it is when the layers are known. A register with a key that is not lawful is refused before.
-pub record DepthWord (w : ℕ) (x : Slot) : Type 0 where
-  pub page : pageIn w ≡ x .page
-  pub entry : entryIn w ≡ x .entry
-  pub depth : layerIn w ≡ x .depth
+abbrev pub DepthWord : ℕ → Slot → Type 0
+DepthWord w x = RecordWord w (x .page) (x .entry) (x .depth)
 
 pub record WordOf (w : ℕ) (x : Slot) : Type 0 where
   pub page : pageIn w ≡ x .page
   pub entry : entryIn w ≡ x .entry
   pub layer : lawful (keyOf x) ≡ true → layerIn w ≡ layerOf (keyOf x)
+  pub first : w < fromSecond
 
 pub blank : Slot
 blank = record { depth = 0; page = 0; entry = 0; value = 0; item = record { key = []; val = [] } }
@@ -62,36 +60,16 @@ holding zero (page (under d p) end) = false
 holding zero (page (under d p) (entry e g es)) = true
 holding (suc link) t = not (bare t)
 
--- ---- keys in buffers
--- The last key stands whole in its buffer.
-pub record LastIs (last : List ℕ) (n : ℕ) (k : List ℕ) : Type 0 where
-  pub room : n ≤ length last
-  pub bytes : take n last ≡ k
-
-unfoldable pub LawfulIs : List ℕ → ℕ → Bool → Type 0
-LawfulIs buffer size r = (k : List ℕ) → HoldsKey buffer size k → r ≡ lawful k
-
-unfoldable pub RisesIs : List ℕ → ℕ → List ℕ → ℕ → Bool → Type 0
-RisesIs last n buffer size r =
-    (j k : List ℕ) → LastIs last n j → HoldsKey buffer size k → size ≤ length buffer → r ≡ less j k
-
 -- ---- words noted
 -- One more word, where there is room.
 pub record Noted (index : List ℕ) (k page entry depth : ℕ) (index′ : List ℕ) : Type 0 where
-  pub room : k < length index → (w : ℕ) × (index′ ≡ set index k w) × (pageIn w ≡ page) × (entryIn w ≡ entry) × (layerIn w ≡ depth)
+  pub room : k < length index → (w : ℕ) × (index′ ≡ set index k w) × RecordWord w page entry depth
   pub full : length index ≤ k → index′ ≡ index
-
--- The second word of a chain. The counts of a register with too many records need not fit.
-pub record SpanWord (w to before under later : ℕ) : Type 0 where
-  pub ends : endIn w ≡ to
-  pub from : before < 2 ^ 13 → fromIn w ≡ before
-  pub records : under < 2 ^ 13 → recordsIn w ≡ under
-  pub below : later < 2 ^ 13 → belowIn w ≡ later
 
 -- The words of one more chain, where there is room.
 pub record ChainNoted (row : List ℕ) (k at link above to from records below : ℕ) (row′ : List ℕ) : Type 0 where
   pub room : 2 * k + 1 < length row
-      → (w v : ℕ) × (row′ ≡ set (set row (2 * k) w) (2 * k + 1) v) × (pageIn w ≡ at) × (linkIn w ≡ link) × (aboveIn w ≡ above) × SpanWord v to from records below
+      → (w v : ℕ) × (row′ ≡ set (set row (2 * k) w) (2 * k + 1) v) × RecordWord w at link above × SpanWord v to from records below
   pub full : length row ≤ 2 * k + 1 → row′ ≡ row
 
 -- A chain is noted when the walk has gone through all that is below it.
@@ -107,7 +85,7 @@ Counted k from (Stopped stop) = Unit {0}
 -- ---- one step of the walk
 -- From the state st, the index, the row of chains and the key of the record before, the walk passed these slots and chains, and the pages it
 -- passed hold these tests. The test of prefixes may fail where they are right, but not hold where one is wrong.
-pub record Moved (s index row last : List ℕ) (xs : List Slot) (cs : List Chain) (rightPrefixes full : Bool) (st st′ : State) (index′ row′ last′ : List ℕ) : Type 0 where
+pub record Moved (s index row last : List ℕ) (xs : List Slot) (cs : List Chain) (rightPrefixes full : Bool) (st st′ : WalkState) (index′ row′ last′ : List ℕ) : Type 0 where
   pub ahead : st .next ≤ st′ .next
   pub within : st′ .next ≤ length s
   pub count : st′ .count ≡ st .count + length xs
@@ -123,40 +101,40 @@ pub record Moved (s index row last : List ℕ) (xs : List Slot) (cs : List Chain
   pub chained : st′ .count ≤ most → ChainsAt s row′ (st .chains) cs
 
 -- What was read is a T, by the reading p.
-pub record Done {T : Type 0} (s index row last : List ℕ) (slack : ℕ) (p : Read T) (slotsOf : T → List Slot) (chainsOf : T → List Chain) (prefixes fill : T → Bool) (st st′ : State) (index′ row′ last′ : List ℕ) : Type 0 where
+pub record WalkedWhole {T : Type 0} (s index row last : List ℕ) (slack : ℕ) (p : Read T) (slotsOf : T → List Slot) (chainsOf : T → List Chain) (prefixes fill : T → Bool) (st st′ : WalkState) (index′ row′ last′ : List ℕ) : Type 0 where
   pub what : T
   pub reads : p ≡ read what (drop (st′ .next) s)
   pub few : length (slotsOf what) + st .next ≤ st′ .next + slack
   pub fewChains : length (chainsOf what) + st .next ≤ st′ .next
   pub moved : Moved s index row last (slotsOf what) (chainsOf what) (prefixes what) (fill what) st st′ index′ row′ last′
 
-abbrev pub Outcome : {T : Type 0} → List ℕ → List ℕ → List ℕ → List ℕ → ℕ → Read T → (T → List Slot) → (T → List Chain) → (T → Bool) → (T → Bool) → State → Walked → List ℕ → List ℕ → List ℕ → Type 0
-Outcome s index row last slack p slotsOf chainsOf prefixes fill st (Whole st′) index′ row′ last′ = Done s index row last slack p slotsOf chainsOf prefixes fill st st′ index′ row′ last′
-Outcome s index row last slack p slotsOf chainsOf prefixes fill st (Stopped stop) index′ row′ last′ = p ≡ stopped stop
+abbrev pub PartWalked : {T : Type 0} → List ℕ → List ℕ → List ℕ → List ℕ → ℕ → Read T → (T → List Slot) → (T → List Chain) → (T → Bool) → (T → Bool) → WalkState → Walked → List ℕ → List ℕ → List ℕ → Type 0
+PartWalked s index row last slack p slotsOf chainsOf prefixes fill st (Whole st′) index′ row′ last′ = WalkedWhole s index row last slack p slotsOf chainsOf prefixes fill st st′ index′ row′ last′
+PartWalked s index row last slack p slotsOf chainsOf prefixes fill st (Stopped stop) index′ row′ last′ = p ≡ readStop stop
 
 -- The walk over the page at st .next, which stands `level` deep, and over all pages below it. The link at `link` leads to the first of the
 -- chain that the page belongs to, and `above` pages of it have no entries.
-unfoldable pub PageSays : List ℕ → List ℕ → List ℕ → List ℕ → ℕ → ℕ → ℕ → State → Walked → List ℕ → List ℕ → List ℕ → Type 0
+unfoldable pub PageSays : List ℕ → List ℕ → List ℕ → List ℕ → ℕ → ℕ → ℕ → WalkState → Walked → List ℕ → List ℕ → List ℕ → Type 0
 PageSays s index row last level link above st r index′ row′ last′ =
     (labels : List (List ℕ)) → length labels - 1 ≡ above → LabelsAt s link (st .next - 47 * above) labels (st .next)
-    → Outcome s index row last 0 (readTree (deepest - level) (drop (st .next) s)) (slots level (st .next)) (chains (st .count) (st .next) labels)
+    → PartWalked s index row last 0 (readTree (deepest - level) (drop (st .next) s)) (slots level (st .next)) (chains (st .count) (st .next) labels)
     prefixesRight (λ t. holding link t && filled t) st r index′ row′ last′
 
 -- The walk over the n entries from `first` on in the page at `pg`, and over all pages below them.
-unfoldable pub EntriesSay : List ℕ → List ℕ → List ℕ → List ℕ → ℕ → ℕ → ℕ → ℕ → State → Walked → List ℕ → List ℕ → List ℕ → Type 0
+unfoldable pub EntriesSay : List ℕ → List ℕ → List ℕ → List ℕ → ℕ → ℕ → ℕ → ℕ → WalkState → Walked → List ℕ → List ℕ → List ℕ → Type 0
 EntriesSay s index row last level pg first n st r index′ row′ last′ =
     (es : List RawEntry) (past : ℕ) → times n entryAt (drop first s) ≡ read es (drop past s)
-    → Outcome s index row last n (readFrom (readTree (deepest - suc level)) es (drop (st .next) s)) (slotsFrom level pg first (st .next) [])
+    → PartWalked s index row last n (readFrom (readTree (deepest - suc level)) es (drop (st .next) s)) (slotsFrom level pg first (st .next) [])
     (chainsFrom (st .count) (st .next)) (prefixesRightFrom []) filledFrom st r index′ row′ last′
 
 -- One record was taken: its slot is x, whose key the buffer holds, and its prefix is right where `fits` says so.
-unfoldable pub Taken : List ℕ → List ℕ → ℕ → ℕ → ℕ → List ℕ → ℕ → Bool → State → State → List ℕ → List ℕ → Type 0
+unfoldable pub Taken : List ℕ → List ℕ → ℕ → ℕ → ℕ → List ℕ → ℕ → Bool → WalkState → WalkState → List ℕ → List ℕ → Type 0
 Taken index last level pg at buffer size fits st st′ index′ last′ =
     (s row : List ℕ) → st .next ≤ length s → (x : Slot) → x .depth ≡ level → x .page ≡ pg → x .entry ≡ at → HoldsKey buffer size (keyOf x)
     → (right : Bool) → (fits ≡ true → right ≡ true) → Moved s index row last (x ∷ []) [] right true st st′ index′ row last′
 
 -- The test of a page as a whole was taken in; what follows it begins where it ends.
-pub record PageTaken (link : ℕ) (p : PageAt) (st st′ : State) : Type 0 where
+pub record PageTaken (link : ℕ) (p : PageAt) (st st′ : WalkState) : Type 0 where
   pub next : st′ .next ≡ p .end
   pub count : st′ .count ≡ st .count
   pub chains : st′ .chains ≡ st .chains
@@ -167,7 +145,7 @@ pub record PageTaken (link : ℕ) (p : PageAt) (st st′ : State) : Type 0 where
   pub fill : st′ .filled ≡ (st .filled && pageHolds link (p .count) (p .left))
 
 -- The same, and a chain begins with it or ends with it.
-pub record Entered (st st′ : State) : Type 0 where
+pub record Entered (st st′ : WalkState) : Type 0 where
   pub next : st′ .next ≡ st .next
   pub count : st′ .count ≡ st .count
   pub chains : st′ .chains ≡ st .chains + 1
@@ -178,7 +156,7 @@ pub record Entered (st st′ : State) : Type 0 where
   pub fill : st′ .filled ≡ st .filled
 
 -- ---- the whole register
-pub record Walks (s index row : List ℕ) (st : State) : Type 0 where
+pub record Walks (s index row : List ℕ) (st : WalkState) : Type 0 where
   pub root : SpeltTree
   pub reads : readTree deepest s ≡ read root (drop (st .next) s)
   pub within : st .next ≤ length s
@@ -193,4 +171,4 @@ pub record Walks (s index row : List ℕ) (st : State) : Type 0 where
 
 abbrev pub WalkSays : List ℕ → Walked → List ℕ → List ℕ → Type 0
 WalkSays s (Whole st) index row = Walks s index row st
-WalkSays s (Stopped stop) index row = readTree deepest s ≡ stopped stop
+WalkSays s (Stopped stop) index row = readTree deepest s ≡ readStop stop

@@ -1,28 +1,27 @@
 // The walk over a register's pages.
-use crate::buffer::extend;
-use crate::buffer::prefix_fits;
 use crate::words::note;
 use crate::words::note_chain;
-use answer::Answer;
-use key::order::Order;
-use key::order::compare;
-use key::slash;
-use page::reading::EntryRead;
-use page::reading::PageAt;
-use page::reading::PageRead;
-use page::reading::Stop;
-use page::reading::locate_entry;
-use page::reading::read_page;
+use page_keys::extend_key;
+use page_keys::key_is_lawful;
+use page_keys::key_rises;
+use page_keys::prefix_fits;
+use page_keys::remember;
+use page_reader::EntryRead;
+use page_reader::PageAt;
+use page_reader::PageRead;
+use page_reader::Stop;
+use page_reader::locate_entry;
+use page_reader::read_page;
 ghost use mathlib.Core.Path.{_≡_};
-ghost use mathlib.Core.Bool.{Bool, cond, _&&_};
+ghost use mathlib.Core.Bool.{cond, _&&_};
 ghost use Prim.Native.Nat.{_+_, _^_, _≤_, _<_};
-ghost use lib.ListN.{length, take};
+ghost use lib.ListN.{length};
 ghost use lib.Dec.{eqb};
-ghost use Rattle.fips180.specs.Bytes.{Bytes};
-ghost use Rattle.index.specs.Walk.{pageHolds, LawfulIs, RisesIs, Taken, PageTaken, Entered, Counted, Left, PageSays, EntriesSay, WalkSays};
+ghost use Rattle.bytestring.specs.Bytes.{Bytes};
+ghost use Rattle.index.specs.Walk.{pageHolds, Taken, PageTaken, Entered, Counted, Left, PageSays, EntriesSay, WalkSays};
 
 // Where the walk stands: the next byte, the records and the chains so far, the length of the last key, and whether each test held so far.
-pub struct State {
+pub struct WalkState {
     pub next: usize,
     pub count: usize,
     pub chains: usize,
@@ -34,7 +33,7 @@ pub struct State {
 }
 
 pub enum Walked {
-    Whole(State),
+    Whole(WalkState),
     Stopped(Stop),
 }
 
@@ -58,52 +57,6 @@ fn page_holds(link: usize, count: usize, left: usize) -> bool
     0 < left
 }
 
-// Whether the key in a buffer keeps the key rule. A key longer than the buffer does not.
-fn key_is_lawful(buffer: &[u8], size: usize) -> bool
-    requires { ⌜ 256 ≤ length (now buffer) ⌝ }
-    ensures { λ r. ⌜ LawfulIs (now (buffer .entry)) size r ⌝ }
-{
-    if buffer.len() < size {
-        return false;
-    }
-    match slash(&buffer[..size]) {
-        Answer::Done(_) => true,
-        Answer::Refused(_) => false,
-    }
-}
-
-// Whether the key in a buffer is greater than the last key.
-fn key_rises(last: &[u8], last_size: usize, buffer: &[u8], size: usize) -> bool
-    ensures { λ r. ⌜ RisesIs (now (last .entry)) «last_size» (now (buffer .entry)) size r ⌝ }
-{
-    if last.len() < last_size {
-        return false;
-    }
-    if buffer.len() < size {
-        return false;
-    }
-    match compare(&last[..last_size], &buffer[..size]) {
-        Order::Less => true,
-        Order::Equal => false,
-        Order::Greater => false,
-    }
-}
-
-// The key in the buffer becomes the last key, unless it is longer than the buffer.
-fn remember(last: &mut [u8], buffer: &[u8], size: usize)
-    requires { ⌜ length (now buffer) ≡ length (now last) ⌝ }
-    ensures { λ _. ⌜ (size ≤ length (now (buffer .entry)) → take size (now (last .exit)) ≡ take size (now (buffer .entry))) ⌝ }
-{
-    let mut i = 0;
-    while i < size {
-        if buffer.len() <= i {
-            return;
-        }
-        last[i] = buffer[i];
-        i += 1;
-    }
-}
-
 // One record more: its tests, its word in the index, and its key as the last key.
 fn take_record(
     index: &mut [u64],
@@ -111,11 +64,11 @@ fn take_record(
     buffer: &[u8],
     size: usize,
     fits: bool,
-    st: State,
+    st: WalkState,
     level: usize,
     page: usize,
     at: usize,
-) -> State
+) -> WalkState
     requires { ⌜ (length (now buffer) ≡ 256) × (length (now last) ≡ 256) × (page < 2 ^ 24) × (at < 2 ^ 24) × (level < 256) × (st .count < 2 ^ 32) ⌝ }
     ensures { λ r. ⌜ Taken (now (index .entry)) (now (last .entry)) level page at (now (buffer .entry)) size fits st r (now (index .exit)) (now (last .exit)) ⌝ }
 {
@@ -124,7 +77,7 @@ fn take_record(
     let k = st.count;
     note(index, k, page, at, level);
     remember(last, buffer, size);
-    State {
+    WalkState {
         next: st.next,
         count: k + 1,
         chains: st.chains,
@@ -137,13 +90,13 @@ fn take_record(
 }
 
 // The test of a page as a whole, and where its subtrees begin.
-fn take_page(link: usize, p: PageAt, st: State) -> State
+fn take_page(link: usize, p: PageAt, st: WalkState) -> WalkState
     ensures { λ r. ⌜ PageTaken link p st r ⌝ }
 {
     let end = p.end;
     let count = p.count;
     let left = p.left;
-    State {
+    WalkState {
         next: end,
         count: st.count,
         chains: st.chains,
@@ -156,11 +109,11 @@ fn take_page(link: usize, p: PageAt, st: State) -> State
 }
 
 // One chain more.
-fn enter(st: State) -> State
+fn enter(st: WalkState) -> WalkState
     requires { ⌜ st .chains < 2 ^ 32 ⌝ }
     ensures { λ r. ⌜ Entered st r ⌝ }
 {
-    State {
+    WalkState {
         next: st.next,
         count: st.count,
         chains: st.chains + 1,
@@ -229,7 +182,7 @@ fn walk_page(
     level: usize,
     link: usize,
     above: usize,
-    st: State,
+    st: WalkState,
 ) -> Walked
     requires { ⌜ (length (now s) < 2 ^ 24) × Bytes (now s) × (length (now last) ≡ 256) × (st .next ≤ length (now s)) × (st .count ≤ st .next) × (st .chains ≤ st .next) × (level ≤ 129) × (above ≤ level) × (link ≤ length (now s)) ⌝ }
     ensures { λ r. ⌜ PageSays (now (s .entry)) (now (index .entry)) (now (row .entry)) (now (last .entry)) level link above st r (now (index .exit)) (now (row .exit)) (now (last .exit)) ⌝ }
@@ -286,7 +239,7 @@ fn walk_entries(
     page: usize,
     first: usize,
     n: usize,
-    st: State,
+    st: WalkState,
 ) -> Walked
     requires { ⌜ (length (now s) < 2 ^ 24) × Bytes (now s) × (length (now last) ≡ 256) × (st .next ≤ length (now s)) × (st .count + n ≤ st .next) × (st .chains ≤ st .next) × (level < 129) × (page ≤ length (now s)) × (first ≤ length (now s)) ⌝ }
     ensures { λ r. ⌜ EntriesSay (now (s .entry)) (now (index .entry)) (now (row .entry)) (now (last .entry)) level page first n st r (now (index .exit)) (now (row .exit)) (now (last .exit)) ⌝ }
@@ -304,7 +257,7 @@ fn walk_entries(
                 let remainder = e.remainder;
                 let length = e.size;
                 let fits = prefix_fits(&buffer, size, s, shares, remainder, length);
-                size = extend(&mut buffer, size, s, shares, remainder, length);
+                size = extend_key(&mut buffer, size, s, shares, remainder, length);
                 let one = take_record(index, last, &buffer, size, fits, cur, level, page, at);
                 i += 1;
                 at = e.end;
@@ -335,7 +288,7 @@ pub fn walk(s: &[u8], index: &mut [u64], row: &mut [u64]) -> Walked
     ensures { λ r. ⌜ WalkSays (now (s .entry)) r (now (index .exit)) (now (row .exit)) ⌝ }
 {
     let mut last = [0u8; 256];
-    let st = State {
+    let st = WalkState {
         next: 0,
         count: 0,
         chains: 0,

@@ -1,11 +1,11 @@
 -- The layers of a row of records, one after the other.
-use Prim.Native.Nat.{ℕ, zero, suc, _+_, _-_, _^_, _≤_, _<_}
-use mathlib.Core.Path.{_≡_, refl, sym, ap, subst, _∙_}
-use mathlib.Core.Bool.{Bool, true, false, cond, _&&_, false≢true}
+use Prim.Native.Nat.{ℕ, suc, _+_, _-_, _≤_, _<_}
+use mathlib.Core.Path.{_≡_, refl, sym, ap, _∙_}
+use mathlib.Core.Bool.{true, false, cond, _&&_, false≢true}
 use mathlib.Core.List.{List, [], _∷_}
 use native.Mathlib.Omega.{arith}
 use native.Mathlib.Numerals.{add-one}
-use lib.Dec.{eqb, ltb}
+use lib.Dec.{eqb}
 use lib.ListN.{length, take, drop, getD, set, length-set, drop-of-length-le}
 use lib.Seq.{drop-cons, getD-set-same, getD-set-other}
 use borrow.Author.Tests.{eq-eqb, ne-eqb, eqb-true, eqb-false}
@@ -14,14 +14,13 @@ use Rattle.key.specs.Key.{lawful}
 use Rattle.key.specs.Layer.{layerOf}
 use Rattle.key.proofs.Laws.{layer-le}
 use Rattle.tree.specs.Record.{Record}
-use Rattle.index.specs.Word.{pageIn, entryIn, layerIn}
+use Rattle.word.specs.Word.{pageIn, entryIn, layerIn, RecordWord}
 use Rattle.index.specs.Slot.{Slot, keyOf, levelSlots}
-use Rattle.index.specs.Standing.{SlotAt}
-use Rattle.index.specs.Walk.{DepthWord, WordOf, blank, HoldsWords, Indexes}
-use Rattle.row.specs.Row.{sourceOf, recordOf, AtPlaces}
+use Rattle.index.specs.Walk.{DepthWord, WordOf, blank, HoldsWords}
+use Rattle.row.specs.Row.{AtPlaces}
 use Rattle.row.specs.Memory.{Recalls}
 use Rattle.row.specs.declared.recall.Recalled.{Recalled}
-use Rattle.row.proofs.Rows.{word-record}
+use Rattle.row.proofs.Rows.{source-same, word-record}
 use Rattle.judge.specs.Layers.{Depths, topOf, LayersSay}
 
 -- Of the slots xs the first i have their layers in the words; the other words are as they were.
@@ -39,10 +38,6 @@ pub layers-start : (s index : List ℕ) (n : ℕ) → LayersSoFar s index n 0 0 
 unfolding LayersSoFar
 layers-start s index n d = record { size = refl; done = λ j h. absurd (omega arith); left = λ j h. refl; highest = λ h. absurd (omega arith); same = refl }
 
-one-source : (s : List ℕ) (w : ℕ) (b : Bool) → cond b s s ≡ s
-one-source s w true = refl
-one-source s w false = refl
-
 top-first : (xs : List Slot) → 0 < length xs → topOf xs ≡ layerOf (keyOf (getD xs 0 blank)) + getD xs 0 blank .depth
 unfolding topOf
 top-first [] h = absurd (omega arith)
@@ -57,10 +52,9 @@ module _ {s index₀ : List ℕ} {n : ℕ} (d : Depths s index₀ n) (i : ℕ) (
   word-of = rw e (d .words i (omega (arith, d .number)) (omega (arith, d .room)))
 
   pub at-places : AtPlaces s s w
-  unfolding sourceOf
   at-places = record {
     slot = x;
-    there = rw (one-source s w (ltb w (2 ^ 60))) (d .there i h);
+    there = rw (source-same s w) (d .there i h);
     page = word-of .page;
     entry = word-of .entry;
     lawful = d .keys i h;
@@ -78,7 +72,7 @@ module _ {s index₀ : List ℕ} {n : ℕ} (d : Depths s index₀ n) (i : ℕ) (
     layer-is = ly ∙ ap layerOf key-is
 
     sum-is : layer + depth ≡ layerOf (keyOf x) + x .depth
-    sum-is = omega (arith, layer-is, de, word-of .depth)
+    sum-is = omega (arith, layer-is, de, word-of .third)
 
     module _ (top top′ : ℕ) (te : top′ ≡ cond (eqb i 0) (layer + depth) top) (index : List ℕ) (u : LayersDone (d .slots) index₀ top i index) where
       top-is : top′ ≡ topOf (d .slots)
@@ -97,8 +91,8 @@ module _ {s index₀ : List ℕ} {n : ℕ} (d : Depths s index₀ n) (i : ℕ) (
       differs : (layer + depth ≡ top′ → ⊥) → false ≡ levelSlots (topOf (d .slots)) (d .slots)
       differs f = sym (next ∙ rw (ne-eqb (layer + depth) top′ f))
 
-      goes-on : layer + depth ≡ top′ → (w′ : ℕ) → pageIn w′ ≡ pageIn w → entryIn w′ ≡ entryIn w → layerIn w′ ≡ layer → LayersDone (d .slots) index₀ top′ (i + 1) (set index i w′)
-      goes-on q w′ a b c =
+      goes-on : layer + depth ≡ top′ → (w′ : ℕ) → RecordWord w′ (pageIn w) (entryIn w) layer → LayersDone (d .slots) index₀ top′ (i + 1) (set index i w′)
+      goes-on q w′ a =
           let room : i < length index = omega (arith, u .size, d .room) in
           record {
             size = length-set index i w′ ∙ u .size;
@@ -106,7 +100,7 @@ module _ {s index₀ : List ℕ} {n : ℕ} (d : Depths s index₀ n) (i : ℕ) (
                 cases (eqb j i)
                 (λ z.
                 let same : j ≡ i = eqb-true j i z in
-                rw (same, getD-set-same index i w′ 0 room) (record { page = a ∙ word-of .page; entry = b ∙ word-of .entry; layer = λ _. c ∙ layer-is }))
+                rw (same, getD-set-same index i w′ 0 room) (record { page = a .page ∙ word-of .page; entry = a .entry ∙ word-of .entry; layer = λ _. a .third ∙ layer-is; first = a .first }))
                 (λ z. rw (getD-set-other index i j w′ 0 (eqb-false j i z)) (u .done j (omega (arith, eqb-false j i z))));
             left = λ j g. getD-set-other index i j w′ 0 (λ z. omega arith) ∙ u .left j (omega arith);
             highest = λ _. top-is;
@@ -134,11 +128,11 @@ module _ (s index₀ : List ℕ) (n top i : ℕ) (index : List ℕ) (u : LayersS
       layers-differ f d =
           (differs d i h (getD index i 0) (u d .left i (omega arith)) keys notes found r to ends layer ly depth de top top′ te index (u d) f, λ z. absurd (false≢true z))
 
-      pub layers-more : layer + depth ≡ top′ → (w′ : ℕ) → (pageIn w′ ≡ pageIn (getD index i 0)) × (entryIn w′ ≡ entryIn (getD index i 0)) × (layerIn w′ ≡ layer)
+      pub layers-more : layer + depth ≡ top′ → (w′ : ℕ) → RecordWord w′ (pageIn (getD index i 0)) (entryIn (getD index i 0)) layer
           → LayersSoFar s index₀ n top′ (i + 1) (set index i w′)
       unfolding LayersSoFar
       layers-more q w′ a d =
-          goes-on d i h (getD index i 0) (u d .left i (omega arith)) keys notes found r to ends layer ly depth de top top′ te index (u d) q w′ (a .0) (a .1) (a .2)
+          goes-on d i h (getD index i 0) (u d .left i (omega arith)) keys notes found r to ends layer ly depth de top top′ te index (u d) q w′ a
 
 pub layer-small : (layer : ℕ) (k : List ℕ) → layer ≡ layerOf k → layer < 256
 layer-small layer k e = omega (arith, e, layer-le k)

@@ -1,10 +1,6 @@
-pub mod Comparing
-pub mod ChainReads
 pub mod PrefixPages
-pub mod LabelLoops
-pub mod RowLoops
 pub mod LayerLoops
 pub mod RightTree
 pub mod RightChains
+pub mod PrefixLoops
 pub mod Verdicts
-pub mod Labels

@@ -2,20 +2,19 @@
 use Prim.Native.Nat.{ℕ, _+_}
 use mathlib.Core.Path.{_≡_, refl, sym, ap, _∙_}
 use mathlib.Core.Bool.{Bool, true, false, not, _&&_, and-true, and-assoc, false≢true}
-use mathlib.Core.Option.{some}
-use mathlib.Core.List.{List, [], _∷_, _++_, append-nil}
+use mathlib.Core.List.{List, [], _∷_, _++_}
 use lib.ListN.{length, take, drop, take-append-drop}
 use lib.Dec.{eqb}
+use Rattle.bytestring.specs.Bytes.{equal}
+use Rattle.bytestring.proofs.Tools.{and-inv}
 use Rattle.fips180.specs.Hash.{sha256}
 use Rattle.key.specs.Key.{shared}
-use Rattle.page.specs.Page.{pageBytes}
-use Rattle.page.proofs.Tools.{and-inv}
+use Rattle.page_keys.specs.Keys.{prefixesOf}
 use Rattle.tree.specs.Tree.{page, Gap, empty, under, Entries, end, entry, itemsUnder}
 use Rattle.tree.specs.Record.{Spelt}
 use Rattle.tree.specs.Table.{SpeltTree, linkOf, rawEntries, rawPage, bytesOfPage, tableUnder}
-use Rattle.tree.specs.Judge.{equal, prefixesRight, prefixesRightUnder, prefixesRightFrom, digestsRight, digestsRightUnder, digestsRightFrom}
+use Rattle.tree.specs.Judge.{prefixesRight, prefixesRightUnder, prefixesRightFrom, digestsRight, digestsRightUnder, digestsRightFrom}
 use Rattle.index.specs.Slot.{bare, filled, filledUnder, filledFrom}
-use Rattle.index.specs.Buffer.{prefixesOf}
 use Rattle.index.specs.Chain.{Chain, onlyLink, labelsOn, chainIf, chains, chainsUnder, chainsFrom, labelsRight, chainsRight}
 use Rattle.judge.specs.Prefixes.{prefixesIn}
 
@@ -37,7 +36,7 @@ chains-none : chainsRight [] ≡ true
 unfolding chainsRight
 chains-none = refl
 
-prefixes-none : prefixesIn [] ≡ true
+pub prefixes-none : prefixesIn [] ≡ true
 unfolding prefixesIn
 prefixes-none = refl
 

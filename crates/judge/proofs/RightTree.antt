@@ -7,16 +7,17 @@ use mathlib.Core.List.{List, [], _∷_, _++_, append-nil}
 use native.Mathlib.Omega.{arith}
 use lib.Dec.{eqb}
 use borrow.Author.Tests.{eqb-true}
+use Rattle.bytestring.proofs.Tools.{All, all-append, and-inv}
 use Rattle.tree.specs.Tree.{Page, page, Gap, empty, under, Entries, end, entry, items}
 use Rattle.tree.specs.Record.{Spelt, keyed, keyedUnder, keyedFrom}
 use Rattle.tree.specs.Table.{SpeltTree}
 use Rattle.tree.specs.Judge.{rightTree}
-use Rattle.page.proofs.Tools.{All, all-append, all-split, and-inv}
-use Rattle.tree.proofs.Laws.{Some, depths, depthsUnder, depthsFrom, Filled, noLink, noEntry, barren, noneBarren, noneBarrenUnder, noneBarrenFrom, Level, layerOfRecord, none-barren-filled, filled-none-barren, none-barren-keyed, right-local, none-right, local-right}
+use Rattle.tree.proofs.Laws.{Some, depths, depthsUnder, depthsFrom, Filled, right-local, none-right, local-right}
 use Rattle.tree.proofs.Laws as tree
 use Rattle.key.specs.Layer.{layerOf}
-use Rattle.index.specs.Slot.{Slot, slots, keyOf, levelSlots, bare, filled, filledUnder, filledFrom}
+use Rattle.index.specs.Slot.{Slot, slots, keyOf, levelSlots, filled}
 use Rattle.index.specs.Walk.{holding}
+use Rattle.index.proofs.BarePages.{filled-holds, holds-filled}
 use Rattle.index.proofs.SlotLaws.{slots-level, level-slots}
 use Rattle.judge.specs.Layers.{topOf}
 
@@ -35,34 +36,6 @@ some-all : {A : Type 0} (P Q : A → Type 0) → ((a : A) → P a → Q a → �
 some-all P Q f [] h k = h
 some-all P Q f (a ∷ l) (inl h) k = f a h (k .0)
 some-all P Q f (a ∷ l) (inr h) k = some-all P Q f l h (k .1)
-
--- ---- bare pages
-bare-barren : (t : SpeltTree) → bare t ≡ barren t
-unfolding bare barren noLink noEntry
-bare-barren (page empty end) = refl
-bare-barren (page empty (entry e g es)) = refl
-bare-barren (page (under d p) end) = refl
-bare-barren (page (under d p) (entry e g es)) = refl
-
-mutual
-  unfolding filled noneBarren
-
-  filled-is : (t : SpeltTree) → filled t ≡ noneBarren t
-  filled-is (page g es) = rw (filled-is-under g, filled-is-from es)
-
-  filled-is-under : (g : Gap Spelt (List ℕ)) → filledUnder g ≡ noneBarrenUnder g
-  filled-is-under empty = refl
-  filled-is-under (under d p) = rw (bare-barren p, filled-is p)
-
-  filled-is-from : (es : Entries Spelt (List ℕ)) → filledFrom es ≡ noneBarrenFrom es
-  filled-is-from end = refl
-  filled-is-from (entry e g es) = rw (filled-is-under g, filled-is-from es)
-
-pub filled-holds : (t : SpeltTree) → filled t ≡ true → Filled (keyed t)
-filled-holds t h = none-barren-filled (keyed t) (none-barren-keyed t ∙ sym (filled-is t) ∙ h)
-
-pub holds-filled : (t : SpeltTree) → Filled (keyed t) → filled t ≡ true
-holds-filled t h = filled-is t ∙ sym (none-barren-keyed t) ∙ filled-none-barren (keyed t) h
 
 -- ---- the root
 -- no record stands above the page that depths are counted from

@@ -1,5 +1,5 @@
 -- What the walk and the passes over its rows settle is what the byte string is judged to be.
-use Prim.Native.Nat.{ℕ, _-_, _*_, _^_, _≤_, _<_}
+use Prim.Native.Nat.{ℕ, _-_, _*_, _≤_, _<_}
 use mathlib.Core.Path.{_≡_, refl, sym, ap, subst, _∙_}
 use mathlib.Core.Bool.{Bool, true, false, not, _&&_}
 use mathlib.Core.List.{List, []}
@@ -8,24 +8,23 @@ use lib.ListN.{length, take, drop, length-drop, drop-of-length-le}
 use lib.Seq.{drop-cons, take-all}
 use lib.Dec.{leb}
 use borrow.Author.Tests.{le-leb, lt-leb, not-true, not-false}
-use Rattle.fips180.specs.Bytes.{Bytes}
-use Rattle.sha256.specs.Digest.{longest}
-use Rattle.page.specs.Place.{stopped}
-use Rattle.page.specs.declared.reading.Stop.{Stop}
-use Rattle.page.specs.declared.reading.Stop.the-variants.{EndsEarly, Departs}
-use Rattle.page.proofs.Tools.{and-inv}
+use Rattle.limits.specs.Limits.{longest, deepest, most}
+use Rattle.bytestring.proofs.Tools.{and-inv}
+use Rattle.bytestring.specs.Bytes.{Bytes}
+use Rattle.page_reader.specs.Place.{readStop}
+use Rattle.page_reader.specs.declared.Stop.{Stop}
+use Rattle.page_reader.specs.declared.Stop.the-variants.{EndsEarly, Departs}
 use Rattle.answer.specs.declared.Refusal.the-variants.{TooLong, BytesFollow, TooManyRecords, WrongPrefix, UnlawfulKey, KeysNotRising, WrongTree, WrongDigest}
 use Rattle.answer.specs.declared.Refusal.the-variants as refusals
-use Rattle.tree.specs.Tree.{page, Gap, empty, Entries, end}
 use Rattle.tree.specs.Record.{records}
-use Rattle.tree.specs.Table.{SpeltTree, readTree, deepest}
-use Rattle.tree.specs.Judge.{due, isNone, most, prefixesRight, allLawful, rising, rightTree, digestsRight, tests, refused, judge, judgeRead}
+use Rattle.tree.specs.Table.{SpeltTree, readTree}
+use Rattle.tree.specs.Judge.{due, isNone, prefixesRight, allLawful, rising, rightTree, digestsRight, tests, refused, judge, judgeRead}
 use Rattle.tree.specs.Judge as tree
 use Rattle.tree.proofs.Sizes.{read-length}
-use Rattle.index.specs.Slot.{slots, lawfulSlots, levelSlots, bare, filled}
+use Rattle.index.specs.Slot.{slots, lawfulSlots, levelSlots, filled}
 use Rattle.index.specs.Chain.{chains, labelsRight, chainsRight}
-use Rattle.index.specs.Walk.{holding, Walks, WalkSays, Indexes}
-use Rattle.index.specs.declared.walk.State.{State}
+use Rattle.index.specs.Walk.{holding, Walks, WalkSays}
+use Rattle.index.specs.declared.walk.WalkState.{WalkState}
 use Rattle.index.specs.declared.walk.Walked.{Walked}
 use Rattle.index.specs.declared.walk.Walked.the-variants.{Whole, Stopped}
 use Rattle.index.proofs.SlotLaws.{slots-lawful, slots-rising, slots-length, slots-items}
@@ -33,11 +32,11 @@ use Rattle.index.proofs.ChainRows.{few-chains}
 use Rattle.index.proofs.Standing.{slot-stands}
 use Rattle.row.proofs.Rows.{lawful-slot}
 use Rattle.judge.specs.Layers.{Depths, topOf, LayersSay}
-use Rattle.judge.specs.Digests.{Chained, DigestsSay}
-use Rattle.judge.specs.Prefixes.{prefixesIn, RowPrefixes}
+use Rattle.digests.specs.Digests.{ChainsNoted, DigestsSay}
+use Rattle.judge.specs.Prefixes.{RowPrefixes}
 use Rattle.judge.specs.Verdict.{PrefixesSay, RoomFor, RegisterSays}
 use Rattle.judge.specs.declared.Register.the-variants.{Accepted}
-use Rattle.judge.proofs.ChainReads.{front-chained, back-chained}
+use Rattle.digests.proofs.ChainReads.{front-chained, back-chained}
 use Rattle.judge.proofs.RightTree.{right-tests}
 use Rattle.judge.proofs.RightChains.{right-chains, prefixes-split, prefix-chains}
 
@@ -47,7 +46,7 @@ unfolding judge
 too-long s h = rw (lt-leb (length s) longest h)
 
 module _ (s index row : List ℕ) (w : Walked) (stop : Stop) (size : length s ≤ longest) (says : WalkSays s w index row) (e : w ≡ Stopped stop) where
-  stops : readTree deepest s ≡ stopped stop
+  stops : readTree deepest s ≡ readStop stop
   stops = subst (λ v. WalkSays s v index row) e says
 
   pub ends-early : stop ≡ EndsEarly → judge s ≡ refused refusals.EndsEarly
@@ -58,7 +57,7 @@ module _ (s index row : List ℕ) (w : Walked) (stop : Stop) (size : length s �
   unfolding judge judgeRead
   departs-early q = rw (le-leb (length s) longest size, stops, q)
 
-pub walked-whole : (s index row : List ℕ) (w : Walked) (st : State) → WalkSays s w index row → w ≡ Whole st → Walks s index row st
+pub walked-whole : (s index row : List ℕ) (w : Walked) (st : WalkState) → WalkSays s w index row → w ≡ Whole st → Walks s index row st
 walked-whole s index row w st says e = subst (λ v. WalkSays s v index row) e says
 
 -- ---- bytes left
@@ -76,16 +75,16 @@ unfolding labelsRight
 root-labels t = refl
 
 -- ---- numbers 4 to 10
-module _ {s index row : List ℕ} {st : State} (w : Walks s index row st) where
+module _ {s index row : List ℕ} {st : WalkState} (w : Walks s index row st) where
   -- each chain has a record
   pub chains-few : st .chains ≤ st .count
   chains-few = omega (arith, w .chainCount, w .count, few-chains 0 0 [] (w .root), slots-items 0 0 (w .root))
 
-  pub row-chained : 2 * st .chains ≤ length row → st .count ≤ most → Chained s row (st .chains)
+  pub row-chained : 2 * st .chains ≤ length row → st .count ≤ most → ChainsNoted s row (st .chains)
   row-chained room few = record { chains = chains 0 0 [] (w .root); number = sym (w .chainCount); room = room; words = w .chained few }
 
 -- ---- room for what the walk noted
-module _ {s index row : List ℕ} {st : State} (bytes : Bytes s) (w : Walks s index row st) (few : st .count ≤ most) where
+module _ {s index row : List ℕ} {st : WalkState} (bytes : Bytes s) (w : Walks s index row st) (few : st .count ≤ most) where
   long-enough : 53 * st .count ≤ length s
   long-enough = omega (arith, read-length deepest s (drop (st .next) s) (w .root) bytes (w .reads), w .count, slots-length 0 0 (w .root))
 
@@ -95,14 +94,14 @@ module _ {s index row : List ℕ} {st : State} (bytes : Bytes s) (w : Walks s in
   pub row-room : RoomFor s 2 (length row) → 2 * st .chains ≤ length row
   row-room room = omega (arith, chains-few w, room (st .count) few long-enough)
 
-pub prefixes-walked : (s row : List ℕ) (st : State) → st .prefixes ≡ true → PrefixesSay s row st true
+pub prefixes-walked : (s row : List ℕ) (st : WalkState) → st .prefixes ≡ true → PrefixesSay s row st true
 unfolding PrefixesSay
 prefixes-walked s row st e index w few = sym (w .prefixes e)
 
-module _ (s row : List ℕ) (st : State) (room : 2 * st .chains ≤ length row) (half : ℕ) (part : half ≤ st .chains)
+module _ (s row : List ℕ) (st : WalkState) (room : 2 * st .chains ≤ length row) (half : ℕ) (part : half ≤ st .chains)
     (front : Bool) (says : RowPrefixes s (take (2 * half) row) half front) where
   module _ {index : List ℕ} (w : Walks s index row st) (few : st .count ≤ most) where
-    abbrev whole : Chained s row (st .chains)
+    abbrev whole : ChainsNoted s row (st .chains)
     whole = row-chained w room few
 
     both-halves : (back : Bool) → RowPrefixes s (drop (2 * half) row) (st .chains - half) back → prefixesRight (w .root) ≡ (front && back)
@@ -127,7 +126,7 @@ module _ (s row : List ℕ) (st : State) (room : 2 * st .chains ≤ length row) 
       let all : take (length row - 2 * half) (drop (2 * half) row) ≡ drop (2 * half) row = take-all (length row - 2 * half) (drop (2 * half) row) (omega (arith, length-drop (2 * half) row)) in
       sym (both-halves w few back (subst (λ (l : List ℕ). RowPrefixes s l (st .chains - half) back) all later) ∙ rw (not-false front f))
 
-module _ (s index row : List ℕ) (st : State) (bytes : Bytes s) (size : length s ≤ longest) (w : Walks s index row st) where
+module _ (s index row : List ℕ) (st : WalkState) (bytes : Bytes s) (size : length s ≤ longest) (w : Walks s index row st) where
   judged : judge s ≡ tree.settled (due (tests (w .root) (drop (st .next) s))) (w .root)
   unfolding judge judgeRead
   judged = rw (le-leb (length s) longest size, w .reads)

@@ -1,4 +1,3 @@
 pub mod Layers
-pub mod Digests
 pub mod Prefixes
 pub mod Verdict

@@ -4,11 +4,11 @@ use mathlib.Core.Path.{_≡_}
 use mathlib.Core.Bool.{Bool, true, _&&_}
 use mathlib.Core.List.{List, [], _∷_}
 use Rattle.page.specs.Page.{RawPage, page}
-use Rattle.page.specs.Place.{Reads}
+use Rattle.page_reader.specs.Place.{Reads}
+use Rattle.page_keys.specs.Keys.{prefixesOf}
 use Rattle.tree.specs.Table.{rawPage}
-use Rattle.index.specs.Buffer.{prefixesOf}
 use Rattle.index.specs.Chain.{Chain}
-use Rattle.judge.specs.Digests.{Chained}
+use Rattle.digests.specs.Digests.{ChainsNoted}
 
 -- Whether the prefix lengths of the page at a place are right.
 unfoldable pub PagePrefixes : List ℕ → ℕ → Bool → Type 0
@@ -20,4 +20,4 @@ prefixesIn [] = true
 prefixesIn (c ∷ cs) = prefixesOf [] (rawPage (c .here) .entries) && prefixesIn cs
 
 abbrev pub RowPrefixes : List ℕ → List ℕ → ℕ → Bool → Type 0
-RowPrefixes s row n r = (d : Chained s row n) → r ≡ prefixesIn (d .chains)
+RowPrefixes s row n r = (d : ChainsNoted s row n) → r ≡ prefixesIn (d .chains)

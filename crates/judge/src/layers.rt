@@ -1,27 +1,12 @@
 // The layers of a register's keys: one pass over the row of its records.
-use key::layers::layer_of;
+use key_calls::layers::layer_of;
 use row::recall::recall;
+use word::layer_in;
+use word::with_layer;
 ghost use mathlib.Core.Path.{_≡_};
 ghost use mathlib.Core.Bool.{cond};
-ghost use Prim.Native.Nat.{_<_};
 ghost use lib.Dec.{eqb};
-ghost use Rattle.index.specs.Word.{pageIn, entryIn, layerIn};
 ghost use Rattle.judge.specs.Layers.{Depths, LayersSay};
-
-// The depth of a record's page, in its word.
-fn depth_in(word: u64) -> usize
-    ensures { λ r. ⌜ (r ≡ layerIn word) × (r < 65536) ⌝ }
-{
-    (word / 0x1_0000_0000_0000) as usize
-}
-
-// The word with the layer of the key in place of the depth.
-fn with_layer(word: u64, layer: u32) -> u64
-    requires { ⌜ layer < 256 ⌝ }
-    ensures { λ r. ⌜ (pageIn r ≡ pageIn word) × (entryIn r ≡ entryIn word) × (layerIn r ≡ layer) ⌝ }
-{
-    word % 0x1_0000_0000_0000 + layer as u64 * 0x1_0000_0000_0000
-}
 
 // What the first record's layer and depth make together is asked of all.
 fn top_of(i: usize, top: usize, sum: usize) -> usize
@@ -48,7 +33,7 @@ pub fn note_layers(s: &[u8], index: &mut [u64], n: usize) -> bool
         let from = found.from;
         let to = from + found.size;
         let layer = layer_of(&keys[from..to]);
-        let sum = layer as usize + depth_in(word);
+        let sum = layer as usize + layer_in(word);
         top = top_of(i, top, sum);
         if sum != top {
             return false;

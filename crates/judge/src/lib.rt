@@ -1,23 +1,21 @@
 // Numbers 1 to 10 of a byte string. The walk reads its form and notes its rows; the layers of its keys and the digests of its pages are
 // then passes over these rows, so that nothing is hashed of what is refused before. The functions are for the crates above and no public
 // calls.
-mod digests; // the digests of the pages
 mod layers; // the layers of the keys
 mod prefixes; // the prefix lengths, where keys may be long
 
-use crate::digests::digests_hold;
 use crate::layers::note_layers;
 use crate::prefixes::prefixes_hold;
 use answer::Refusal;
-use index::MOST;
-use index::walk::State;
+use digests::digests_hold;
+use index::walk::WalkState;
 use index::walk::Walked;
 use index::walk::walk;
-use page::reading::Stop;
-ghost use mathlib.Core.Path.{_≡_};
+use limits::MOST;
+use page_reader::Stop;
 ghost use Prim.Native.Nat.{_*_, _≤_};
 ghost use lib.ListN.{length};
-ghost use Rattle.sha256.specs.Digest.{longest};
+ghost use Rattle.limits.specs.Limits.{longest};
 ghost use Rattle.index.specs.Walk.{Walks};
 ghost use Rattle.judge.specs.Verdict.{PrefixesSay, RoomFor, RegisterSays};
 
@@ -29,7 +27,7 @@ pub enum Register {
 
 // Whether all prefix lengths are right. The walk may have failed to tell: then the pages are read again, one half of the row after the other.
 // A function that is called in two places has a frame of its own: the buffer of 65,536 bytes is not on the stack while the pages are walked.
-fn prefixes_right(s: &[u8], row: &[u64], st: State) -> bool
+fn prefixes_right(s: &[u8], row: &[u64], st: WalkState) -> bool
     requires { ⌜ 2 * st .chains ≤ length (now row) ⌝ }
     ensures { λ r. ⌜ PrefixesSay (now (s .entry)) (now (row .entry)) st r ⌝ }
 {
@@ -44,7 +42,7 @@ fn prefixes_right(s: &[u8], row: &[u64], st: State) -> bool
 }
 
 // Numbers 4 to 10, in their order, of a register that was walked through.
-fn settle(s: &[u8], index: &mut [u64], row: &[u64], st: State) -> Register
+fn verdict_of(s: &[u8], index: &mut [u64], row: &[u64], st: WalkState) -> Register
     requires { ⌜ (length (now s) ≤ longest) × RoomFor (now s) 1 (length (now index)) × RoomFor (now s) 2 (length (now row)) × Walks (now s) (now index) (now row) st ⌝ }
     ensures { λ r. ⌜ RegisterSays (now (s .entry)) r (now (index .exit)) (now (row .entry)) ⌝ }
 {
@@ -82,11 +80,11 @@ pub fn judge(s: &[u8], index: &mut [u64], row: &mut [u64]) -> Register
     requires { ⌜ RoomFor (now s) 1 (length (now index)) × RoomFor (now s) 2 (length (now row)) ⌝ }
     ensures { λ r. ⌜ RegisterSays (now (s .entry)) r (now (index .exit)) (now (row .exit)) ⌝ }
 {
-    if sha256::LONGEST < s.len() {
+    if limits::LONGEST < s.len() {
         return Register::Refused(Refusal::TooLong);
     }
     match walk(s, index, row) {
-        Walked::Whole(st) => settle(s, index, row, st),
+        Walked::Whole(st) => verdict_of(s, index, row, st),
         Walked::Stopped(stop) => match stop {
             Stop::EndsEarly => Register::Refused(Refusal::EndsEarly),
             Stop::Departs => Register::Refused(Refusal::Departs),

@@ -1,17 +1,19 @@
 // The prefix lengths of a register's entries: one pass over the row of its chains. Keys may be longer than any lawful one.
-use index::buffer::prefixes_fit;
-use page::reading::PageRead;
-use page::reading::read_page;
+use page_keys::prefixes_fit;
+use page_reader::PageRead;
+use page_reader::read_page;
+use word::page_in;
 ghost use Prim.Native.Nat.{_*_, _≤_};
 ghost use lib.ListN.{length};
+ghost use Rattle.word.specs.Word.{pageIn};
 ghost use Rattle.judge.specs.Prefixes.{PagePrefixes, RowPrefixes};
 
-// Whether the prefix lengths of the page at a place are right.
-fn page_prefixes(s: &[u8], page: usize, buffer: &mut [u8]) -> bool
+// Whether the prefix lengths of a chain's page with entries are right, by the chain's first word.
+fn page_prefixes(s: &[u8], word: u64, buffer: &mut [u8]) -> bool
     requires { ⌜ 65536 ≤ length (now buffer) ⌝ }
-    ensures { λ r. ⌜ PagePrefixes (now (s .entry)) page r ⌝ }
+    ensures { λ r. ⌜ PagePrefixes (now (s .entry)) (pageIn word) r ⌝ }
 {
-    match read_page(s, page) {
+    match read_page(s, page_in(word)) {
         PageRead::Page(p) => prefixes_fit(s, p.first, p.count, buffer),
         PageRead::PageStop(_) => true,
     }
@@ -25,8 +27,7 @@ pub fn prefixes_hold(s: &[u8], row: &[u64], n: usize) -> bool
     let mut buffer = [0u8; 65536];
     let mut i = 0;
     while i < n {
-        let page = (row[2 * i] % 0x100_0000) as usize;
-        if !page_prefixes(s, page, &mut buffer) {
+        if !page_prefixes(s, row[2 * i], &mut buffer) {
             return false;
         }
         i += 1;

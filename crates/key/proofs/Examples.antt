@@ -1,21 +1,8 @@
--- The published examples of layers, and lawful and unlawful keys: antt computes them from the definitions.
+-- Lawful and unlawful keys, and keys in order: antt computes them from the definitions.
 use mathlib.Core.Path.{_≡_, refl}
 use mathlib.Core.Bool.{true, false}
 use mathlib.Core.List.{[], _∷_, map}
-use Rattle.fips180.specs.Hash.{K, pad, schedule, W, round, rounds, plus, compress, run, hash, sha256}
 use Rattle.key.specs.Key.{ordinary, collection, name, allOrdinary, lawful, less}
-use Rattle.key.specs.Layer.{bits, bitsOf, leadingZeroBits, layerOfDigest, layerOf}
-
--- 2653ae71, blue, app.bsky.feed.post/454397e440ec and app.bsky.feed.post/9adeb165882c
-layers-published : map layerOf
-    ((0x32 ∷ 0x36 ∷ 0x35 ∷ 0x33 ∷ 0x61 ∷ 0x65 ∷ 0x37 ∷ 0x31 ∷ [])
-    ∷ (0x62 ∷ 0x6C ∷ 0x75 ∷ 0x65 ∷ [])
-    ∷ (0x61 ∷ 0x70 ∷ 0x70 ∷ 0x2E ∷ 0x62 ∷ 0x73 ∷ 0x6B ∷ 0x79 ∷ 0x2E ∷ 0x66 ∷ 0x65 ∷ 0x65 ∷ 0x64 ∷ 0x2E ∷ 0x70 ∷ 0x6F ∷ 0x73 ∷ 0x74 ∷ 0x2F ∷ 0x34 ∷ 0x35 ∷ 0x34 ∷ 0x33 ∷ 0x39 ∷ 0x37 ∷ 0x65 ∷ 0x34 ∷ 0x34 ∷ 0x30 ∷ 0x65 ∷ 0x63 ∷ [])
-    ∷ (0x61 ∷ 0x70 ∷ 0x70 ∷ 0x2E ∷ 0x62 ∷ 0x73 ∷ 0x6B ∷ 0x79 ∷ 0x2E ∷ 0x66 ∷ 0x65 ∷ 0x65 ∷ 0x64 ∷ 0x2E ∷ 0x70 ∷ 0x6F ∷ 0x73 ∷ 0x74 ∷ 0x2F ∷ 0x39 ∷ 0x61 ∷ 0x64 ∷ 0x65 ∷ 0x62 ∷ 0x31 ∷ 0x36 ∷ 0x35 ∷ 0x38 ∷ 0x38 ∷ 0x32 ∷ 0x63 ∷ [])
-    ∷ [])
-    ≡ 0 ∷ 1 ∷ 4 ∷ 8 ∷ []
-unfolding K pad schedule W round rounds plus compress run hash sha256 bits bitsOf leadingZeroBits layerOfDigest layerOf
-layers-published = refl
 
 -- a/b, A.9-_:~/z; then no bytes, ab, a/, /a, abc, ab/, /ab, a/b/c, a b/c, and a/ with the byte 80
 keys-judged : map lawful

@@ -1,76 +1,18 @@
--- The key rule as the code tries it: the words of ordinary bytes, the pass over a key, the names . and .., and what these tell of a key.
-use Prim.Native.Nat.{ℕ, zero, suc, _+_, _-_, _%_, _≤_, _<_, zero-le, suc-le-suc}
+-- The key rule by the parts of a key.
+use Prim.Native.Nat.{ℕ, suc, zero-le, suc-le-suc, _≤_, _<_}
 use mathlib.Core.Path.{_≡_, refl, sym, ap, _∙_}
-use mathlib.Core.Bool.{Bool, true, false, cond, _&&_, Bool·beq, and-true, and-false, false≢true}
+use mathlib.Core.Bool.{true, false, and-false, false≢true}
 use mathlib.Core.List.{List, [], _∷_}
-use native.Mathlib.Omega.{arith}
-use native.Mathlib.Nat.{zero-add, add-zero}
-use native.Mathlib.Numerals.{add-one}
-use lib.Dec.{eqb, leb}
-use lib.ListN.{length, take, drop, getD, drop-of-length-le, length-drop}
-use lib.Seq.{drop-cons, take-all}
-use borrow.Author.Tests.{eqb-true, eqb-false, eq-eqb, ne-eqb, le-leb, lt-leb}
+use lib.Dec.{eqb}
+use lib.ListN.{length, drop}
+use borrow.Author.Tests.{ne-eqb, lt-leb}
 use borrow.Table.Steps.{cases}
-use Rattle.answer.specs.declared.Answer.the-variants.{Done, Refused}
+use Rattle.answer.specs.declared.Answer.the-variants.{Refused}
 use Rattle.answer.specs.declared.Refusal.the-variants.{UnlawfulKey}
-use Rattle.key.specs.Key.{slashByte, dot, ordinary, collection, name, allOrdinary, isDotName, lawful, slashAnswer}
-use Rattle.key.specs.Inner.{hasBit, onlySlash, slashOrEnd}
+use Rattle.key.specs.Key.{slashByte, ordinary, collection, name, allOrdinary, lawful, slashAnswer}
+use Rattle.key.specs.Inner.{onlySlash}
 
--- ---- the words of ordinary bytes
--- whether the bits of a word tell of the n numbers from low on which are ordinary: a test that antt computes
-unfoldable pub agrees : ℕ → ℕ → ℕ → Bool
-agrees word low zero = true
-agrees word low (suc n) = Bool·beq (hasBit word ((low + n) % 64)) (ordinary (low + n)) && agrees word low n
-
-equal-and-rest : (a b rest : Bool) → Bool·beq a b && rest ≡ true → (a ≡ b) × (rest ≡ true)
-equal-and-rest true true rest h = (refl, h)
-equal-and-rest true false rest h = absurd (false≢true h)
-equal-and-rest false true rest h = absurd (false≢true h)
-equal-and-rest false false rest h = (refl, h)
-
-pub word-told : (word low n b : ℕ) → agrees word low n ≡ true → low ≤ b → b < low + n → hasBit word (b % 64) ≡ ordinary b
-unfolding agrees
-word-told word low zero b h above below = absurd (omega arith)
-word-told word low (suc n) b h above below =
-    let w = equal-and-rest (hasBit word ((low + n) % 64)) (ordinary (low + n)) (agrees word low n) h in
-    cases (eqb b (low + n))
-    (λ e. rw (eqb-true b (low + n) e) (w .0))
-    (λ e. word-told word low n b (w .1) above (omega (arith, eqb-false b (low + n) e)))
-
--- ---- the pass over a key of n bytes
--- what it answers, from byte i on, of the bytes that are left: at is where the slash stood, or n where there was none so far
-unfoldable pub passed : ℕ → ℕ → ℕ → List ℕ → ℕ
-passed n at i [] = at
-passed n at i (b ∷ s) =
-    let next : ℕ = passed n at (i + 1) s in
-    let first : ℕ = passed n i (i + 1) s in
-    cond (ordinary b) next (cond (eqb b slashByte && leb n at) first n)
-
--- the ways that a turn of the loop goes
-module _ (k : List ℕ) (n at i : ℕ) where
-  pub pass-ends : length k ≤ i → passed n at i (drop i k) ≡ at
-  unfolding passed
-  pass-ends h = rw (drop-of-length-le k h)
-
-  module _ (h : i < length k) where
-    pub pass-ordinary : ordinary (getD k i 0) ≡ true → passed n at i (drop i k) ≡ passed n at (i + 1) (drop (i + 1) k)
-    unfolding passed
-    pass-ordinary e = rw (drop-cons k i 0 h, e, add-one)
-
-    module _ (e : ordinary (getD k i 0) ≡ false) where
-      pub pass-other : (getD k i 0 ≡ slashByte → ⊥) → passed n at i (drop i k) ≡ n
-      unfolding passed
-      pass-other f = rw (drop-cons k i 0 h, e, ne-eqb (getD k i 0) slashByte f)
-
-      pub pass-second : at < n → passed n at i (drop i k) ≡ n
-      unfolding passed
-      pass-second l = rw (drop-cons k i 0 h, e, lt-leb n at l, and-false)
-
-      pub pass-slash : getD k i 0 ≡ slashByte → n ≤ at → passed n at i (drop i k) ≡ passed n i (i + 1) (drop (i + 1) k)
-      unfolding passed
-      pass-slash q l = rw (drop-cons k i 0 h, e, eq-eqb (getD k i 0) slashByte q, le-leb n at l, add-one)
-
--- ---- what the pass tells of a key
+-- ---- the slash
 slash-not-ordinary : ordinary slashByte ≡ false
 unfolding ordinary
 slash-not-ordinary = refl
@@ -78,50 +20,8 @@ slash-not-ordinary = refl
 pub ordinary-no-slash : (b : ℕ) → ordinary b ≡ true → eqb b slashByte ≡ false
 ordinary-no-slash b h = ne-eqb b slashByte (λ e. false≢true (sym slash-not-ordinary ∙ ap ordinary (sym e) ∙ h))
 
--- after the slash
-pass-name : (n at i : ℕ) (s : List ℕ) → at < n → passed n at i s ≡ cond (allOrdinary s) at n
-unfolding passed allOrdinary
-pass-name n at i [] h = refl
-pass-name n at i (b ∷ s) h =
-    cases (ordinary b) (λ e. rw e (pass-name n at (i + 1) s h)) (λ e. rw (e, lt-leb n at h, and-false))
-
--- before it
-pass-key : (n i : ℕ) (s : List ℕ) → i + length s ≡ n → passed n n i s ≡ cond (onlySlash s) (i + length (collection s)) n
-unfolding passed collection name allOrdinary onlySlash
-pass-key n i [] h = sym h
-pass-key n i (b ∷ s) h =
-    cases (ordinary b)
-    (λ e.
-    let m : i + suc (length (collection s)) ≡ i + 1 + length (collection s) = omega arith in
-    rw (e, ordinary-no-slash b e, e, m) (pass-key n (i + 1) s (omega arith)))
-    (λ e. cases (eqb b slashByte)
-    (λ q. rw (e, q, le-leb n n (omega arith), add-zero) (pass-name n i (i + 1) s (omega arith)))
-    (λ q. rw (e, q, e)))
-
-pub pass-whole : (k : List ℕ) → passed (length k) (length k) 0 k ≡ slashOrEnd k
-unfolding slashOrEnd
-pass-whole k = pass-key (length k) 0 k (omega arith) ∙ rw zero-add
-
--- ---- the names . and .. by their length
-pub dots-one : (s : List ℕ) → length s ≡ 1 → eqb (getD s 0 0) dot ≡ isDotName s
-dots-one [] h = absurd (omega arith)
-dots-one (a ∷ []) h = refl
-dots-one (a ∷ b ∷ s) h = absurd (omega arith)
-
-pub dots-two : (s : List ℕ) → length s ≡ 2 → (eqb (getD s 0 0) dot && eqb (getD s 1 0) dot) ≡ isDotName s
-dots-two [] h = absurd (omega arith)
-dots-two (a ∷ []) h = absurd (omega arith)
-dots-two (a ∷ b ∷ []) h = refl
-dots-two (a ∷ b ∷ c ∷ s) h = absurd (omega arith)
-
-pub dots-other : (s : List ℕ) → (length s ≡ 1 → ⊥) → (length s ≡ 2 → ⊥) → false ≡ isDotName s
-dots-other [] f g = refl
-dots-other (a ∷ []) f g = absurd (f refl)
-dots-other (a ∷ b ∷ []) f g = absurd (g refl)
-dots-other (a ∷ b ∷ c ∷ s) f g = refl
-
 -- ---- the parts of any string of bytes
-collection-le : (k : List ℕ) → length (collection k) ≤ length k
+pub collection-le : (k : List ℕ) → length (collection k) ≤ length k
 unfolding collection
 collection-le [] = zero-le
 collection-le (b ∷ k) = cases (eqb b slashByte) (λ e. rw e zero-le) (λ e. rw e (suc-le-suc (collection-le k)))
@@ -131,7 +31,7 @@ unfolding collection name
 name-is [] = refl
 name-is (b ∷ k) = cases (eqb b slashByte) (λ e. rw e) (λ e. rw e (name-is k))
 
--- ---- the ways that the code answers
+-- ---- keys that break the rule
 module _ (k : List ℕ) where
   pub slash-none : lawful k ≡ false → slashAnswer k ≡ Refused UnlawfulKey
   unfolding slashAnswer
@@ -141,7 +41,7 @@ module _ (k : List ℕ) where
   unfolding lawful
   long-unlawful h = simp (lt-leb (length k) 256 h, and-false)
 
-  no-collection : length (collection k) ≡ 0 → lawful k ≡ false
+  pub no-collection : length (collection k) ≡ 0 → lawful k ≡ false
   unfolding lawful
   no-collection e = simp (e, and-false)
 
@@ -149,7 +49,7 @@ module _ (k : List ℕ) where
   unfolding lawful
   no-name e = simp (e, and-false)
 
-  other-bytes : onlySlash k ≡ false → lawful k ≡ false
+  pub other-bytes : onlySlash k ≡ false → lawful k ≡ false
   unfolding lawful onlySlash
   other-bytes e =
       cases (allOrdinary (collection k))
@@ -161,48 +61,3 @@ module _ (k : List ℕ) where
   lawful-parts h =
       let only : onlySlash k ≡ true = cases (onlySlash k) (λ e. e) (λ e. absurd (false≢true (sym (other-bytes e) ∙ h))) in
       cases (allOrdinary (collection k)) (λ e. (e, rw e at only)) (λ e. absurd (false≢true (rw e at only)))
-
-  pub long-refused : 256 < length k → Refused UnlawfulKey ≡ slashAnswer k
-  long-refused h = sym (slash-none (long-unlawful h))
-
-  -- at is what the pass answered
-  module _ (at : ℕ) (a : at ≡ slashOrEnd k) where
-    by-bytes {κ} : {C : Type κ} → (lawful k ≡ false → at ≡ length k → C) → (onlySlash k ≡ true → at ≡ length (collection k) → C) → C
-    unfolding slashOrEnd
-    by-bytes f g = cases (onlySlash k) (λ e. g e (rw e at a)) (λ e. f (other-bytes e) (rw e at a))
-
-    name-length : at ≡ length (collection k) → length (name k) ≡ length k - (at + 1)
-    name-length e = rw (name-is k, e, add-one) (simp length-drop)
-
-    pub within : at ≤ length k
-    within = by-bytes (λ _ e. omega arith) (λ _ e. omega (arith, collection-le k))
-
-    pub nothing-before : at ≡ 0 → Refused UnlawfulKey ≡ slashAnswer k
-    nothing-before z = sym (slash-none (by-bytes (λ f _. f) (λ _ e. no-collection (sym e ∙ z))))
-
-    pub nothing-after : length k - at < 2 → Refused UnlawfulKey ≡ slashAnswer k
-    nothing-after h = sym (slash-none (by-bytes (λ f _. f) (λ _ e. no-name (omega (arith, name-length e)))))
-
-    -- some byte stands on each side of the slash, and d says whether the part after it is . or ..
-    module _ (f : at ≡ 0 → ⊥) (h : 2 ≤ length k - at) (d : Bool) (l : d ≡ isDotName (take (length k - (at + 1)) (drop (at + 1) k))) where
-      name-told : at ≡ length (collection k) → isDotName (name k) ≡ d
-      name-told e = rw (l, name-is k, ← e, add-one, take-all (length k - suc at) (drop (suc at) k) (simp length-drop (omega arith)))
-
-      pub dots-after : d ≡ true → Refused UnlawfulKey ≡ slashAnswer k
-      unfolding lawful
-      dots-after y = sym (slash-none (by-bytes (λ u _. u) (λ _ e. simp (name-told e, y, and-false))))
-
-      pub two-parts : length k ≤ 256 → d ≡ false → Done at ≡ slashAnswer k
-      unfolding lawful onlySlash slashAnswer
-      two-parts short y =
-          by-bytes
-          (λ _ e. absurd (omega arith))
-          (λ o e. rw (
-            le-leb 3 (length k) (omega arith),
-            le-leb (length k) 256 short,
-            ← e,
-            le-leb 1 at (omega arith),
-            le-leb 1 (length (name k)) (omega (arith, name-length e)),
-            name-told e,
-            y,
-          ) (simp and-true (rw o)))

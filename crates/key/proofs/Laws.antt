@@ -1,7 +1,7 @@
 -- What the crates above use of keys and layers: lawful keys are at most 256 bytes, no layer is above 128, the laws of the order, and those of
 -- the shared bytes.
 use Prim.Native.Nat.{ℕ, zero, suc, _*_, _≤_, _<_, zero-le, suc-le-suc}
-use mathlib.Core.Path.{_≡_, refl, sym, ap₂, _∙_}
+use mathlib.Core.Path.{_≡_, refl, sym, ap, ap₂, _∙_}
 use mathlib.Core.Bool.{Bool, true, false, and-false, false≢true}
 use mathlib.Core.List.{List, [], _∷_, _++_}
 use native.Mathlib.Omega.{arith}
@@ -9,13 +9,12 @@ use lib.Dec.{eqb, ltb, leb}
 use lib.ListN.{length, take, drop, length-append, take-append-drop}
 use borrow.Author.Tests.{eqb-true, eqb-false, eq-eqb, ne-eqb, ltb-true, ltb-false, lt-ltb, le-ltb, leb-true, leb-false, lt-leb}
 use borrow.Table.Steps.{cases}
-use Rattle.fips180.specs.Bytes.{Bytes}
+use Rattle.bytestring.specs.Bytes.{Bytes}
 use Rattle.fips180.specs.Hash.{sha256}
 use Rattle.fips180.proofs.Laws.{length-sha256}
-use Rattle.key.specs.declared.order.Order.the-variants.{Less, Equal, Greater}
+use Rattle.key.specs.declared.Order.the-variants.{Less, Equal, Greater}
 use Rattle.key.specs.Key.{slashByte, ordinary, collection, name, allOrdinary, lawful, less, order, shared}
 use Rattle.key.specs.Layer.{bits, bitsOf, leadingZeroBits, layerOfDigest, layerOf}
-use Rattle.key.proofs.Bits.{length-bits}
 use Rattle.key.proofs.Lawful.{long-unlawful, lawful-parts}
 
 -- ---- lawful keys
@@ -62,6 +61,11 @@ pub lawful-bytes : (k : List ℕ) → lawful k ≡ true → Bytes k
 lawful-bytes k h = let w = lawful-parts k h in parts-bytes k (w .0) (w .1)
 
 -- ---- layers
+pub length-bits : (k n : ℕ) → length (bits k n) ≡ k
+unfolding bits
+length-bits zero n = refl
+length-bits (suc k) n = ap suc (length-bits k n)
+
 zeros-le : (s : List ℕ) → leadingZeroBits s ≤ length s
 unfolding leadingZeroBits
 zeros-le [] = zero-le

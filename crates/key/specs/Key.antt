@@ -5,11 +5,12 @@ use mathlib.Core.Bool.{Bool, true, false, cond, not, _&&_, _||_}
 use mathlib.Core.List.{List, [], _∷_, _++_}
 use lib.ListN.{length, getD}
 use lib.Dec.{eqb, ltb, leb}
+use Rattle.limits.specs.Limits.{longestKey}
 use Rattle.answer.specs.declared.Answer.{Answer}
 use Rattle.answer.specs.declared.Answer.the-variants.{Done, Refused}
 use Rattle.answer.specs.declared.Refusal.the-variants.{UnlawfulKey}
-use Rattle.key.specs.declared.order.Order.{Order}
-use Rattle.key.specs.declared.order.Order.the-variants.{Less, Equal, Greater}
+use Rattle.key.specs.declared.Order.{Order}
+use Rattle.key.specs.declared.Order.the-variants.{Less, Equal, Greater}
 
 -- The byte between the two parts of a key.
 abbrev pub slashByte : ℕ
@@ -58,7 +59,7 @@ isDotName (a ∷ b ∷ c ∷ s) = false
 -- neither . nor ..
 unfoldable pub lawful : List ℕ → Bool
 lawful k =
-    leb 3 (length k) && leb (length k) 256
+    leb 3 (length k) && leb (length k) longestKey
     && leb 1 (length (collection k)) && allOrdinary (collection k)
     && leb 1 (length (name k)) && allOrdinary (name k)
     && not (isDotName (name k))

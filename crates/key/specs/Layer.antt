@@ -6,7 +6,7 @@ use Rattle.answer.specs.declared.Answer.{Answer}
 use Rattle.answer.specs.declared.Answer.the-variants.{Done, Refused}
 use Rattle.answer.specs.declared.Refusal.the-variants.{TooLong}
 use Rattle.fips180.specs.Hash.{sha256}
-use Rattle.sha256.specs.Digest.{fitsCall}
+use Rattle.limits.specs.Limits.{fitsCall}
 
 -- The k lowest bits of a number, the highest first.
 unfoldable pub bits : ℕ → ℕ → List ℕ

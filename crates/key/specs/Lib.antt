@@ -1,4 +1,3 @@
 pub mod Key
 pub mod Layer
-pub mod Rows
 pub mod Inner

@@ -1,47 +1,8 @@
-// Keys: the key rule, their order, the leading bytes that two share, and layers.
-mod rule; // the parts of the key rule
-pub mod order; // the order of keys, and the leading bytes that two share
-pub mod layers; // the layer of a digest and of a string of bytes
+// Keys: their rule, their order, the leading bytes that two share, and layers are in specs/.
 
-use crate::rule::is_dot_name;
-use crate::rule::slash_or_end;
-use answer::Answer;
-use answer::Refusal;
-ghost use mathlib.Core.Path.{_≡_};
-ghost use Rattle.key.specs.Key.{slashAnswer};
-ghost use Rattle.key.specs.Layer.{layerAnswer};
-
-// Public call: the layer of any string of bytes; number 1 for one that is too long.
-pub fn layer(input: &[u8]) -> Answer
-    ensures { λ r. ⌜ r ≡ layerAnswer (now (input .entry)) ⌝ }
-{
-    if input.len() <= sha256::LONGEST {
-        Answer::Done(layers::layer_of(input))
-    } else {
-        Answer::Refused(Refusal::TooLong)
-    }
-}
-
-// Public call: how many bytes stand before the slash of a key; number 7 for a string that breaks the key rule.
-pub fn slash(key: &[u8]) -> Answer
-    ensures { λ r. ⌜ r ≡ slashAnswer (now (key .entry)) ⌝ }
-{
-    let n = key.len();
-    if 256 < n {
-        return Answer::Refused(Refusal::UnlawfulKey);
-    }
-    let at = slash_or_end(key);
-    if at == 0 {
-        return Answer::Refused(Refusal::UnlawfulKey);
-    }
-    // The bytes from the slash on: none where there is no slash, and more than one where a name follows it.
-    let left = n - at;
-    if left < 2 {
-        return Answer::Refused(Refusal::UnlawfulKey);
-    }
-    let from = at + 1;
-    if is_dot_name(&key[from..]) {
-        return Answer::Refused(Refusal::UnlawfulKey);
-    }
-    Answer::Done(at as u32)
+// How one key stands to another.
+pub enum Order {
+    Less,
+    Equal,
+    Greater,
 }

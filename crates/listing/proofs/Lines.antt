@@ -7,14 +7,14 @@ use native.Mathlib.Numerals.{add-one}
 use lib.ListN.{length, take, drop, getD, set, length-set, length-drop}
 use lib.Seq.{take-all, take-suc, take-suc-set, getD-drop}
 use Rattle.tree.specs.Record.{Record}
-use Rattle.row.specs.Row.{recordOf, recordsOf}
+use Rattle.row.specs.Row.{recordOfWord, recordsOf}
 use Rattle.row.specs.Memory.{Recalls}
 use Rattle.row.specs.declared.recall.Recalled.{Recalled}
 use Rattle.row.proofs.Rows.{source-same, records-none, records-more, records-split}
 use Rattle.promises.specs.Listing.{hexDigit, hexadecimal, space, lineFeed, recordLines}
 use Rattle.listing.specs.Text.{Adds, lineEnd, LineEndSays, lineOf, LineSays}
-use Rattle.listing.specs.declared.text.Written.{Written}
-use Rattle.listing.specs.declared.text.Written.the-variants.{Text, NoRoom}
+use Rattle.listing.specs.declared.text.TextAdded.{TextAdded}
+use Rattle.listing.specs.declared.text.TextAdded.the-variants.{Text, NoRoom}
 use Rattle.listing.proofs.Adding.{adds-nothing, adds-then, adds-short, adds-same}
 
 -- ---- the end of a line
@@ -75,18 +75,18 @@ no-line-end s at text h = record { ends = λ j. absurd (omega arith) }
 
 -- ---- a line
 module _ {s keys notes : List ℕ} {word : ℕ} {found : Recalled} (w : Recalls s s word keys notes found) {o : List ℕ} {at n : ℕ} (size : n ≡ found .size)
-    {m : List ℕ} {q : Written} (a : Adds o at (take n (drop (found .from) keys)) m q) where
-  key-added : Adds o at (recordOf s s word .key) m q
+    {m : List ℕ} {q : TextAdded} (a : Adds o at (take n (drop (found .from) keys)) m q) where
+  key-added : Adds o at (recordOfWord s s word .key) m q
   key-added = adds-same a (sym (w .key) ∙ ap (λ (i : ℕ). take i (drop (found .from) keys)) (sym size))
 
   pub short-line : q ≡ NoRoom → LineSays s word o at m keys notes NoRoom
-  short-line h = record { line = adds-short key-added h (lineEnd (recordOf s s word .val)); remembers = w .remembers }
+  short-line h = record { line = adds-short key-added h (lineEnd (recordOfWord s s word .val)); remembers = w .remembers }
 
-  pub whole-line : {e rest : List ℕ} {next : ℕ} {r : Written} → q ≡ Text next → LineEndSays s (found .value) rest → Adds m next rest e r
+  pub whole-line : {e rest : List ℕ} {next : ℕ} {r : TextAdded} → q ≡ Text next → LineEndSays s (found .value) rest → Adds m next rest e r
       → LineSays s word o at e keys notes r
   whole-line {rest} h l b =
       let place : found .value + 32 ≤ length s = rw source-same at (w .within) in
-      let value : take 32 (drop (found .value) s) ≡ recordOf s s word .val = rw source-same at (w .val) in
+      let value : take 32 (drop (found .value) s) ≡ recordOfWord s s word .val = rw source-same at (w .val) in
       record { line = adds-then key-added h (adds-same b (sym (l .ends place ∙ ap lineEnd value))); remembers = w .remembers }
 
 -- ---- all lines
@@ -118,26 +118,26 @@ pub lines-begin : (s index o : List ℕ) (at : ℕ) → LinesSoFar s index o at 
 lines-begin s index o at = adds-same (adds-nothing o at) (ap recordLines (records-none s s index) ∙ no-lines)
 
 module _ (s index o : List ℕ) (at : ℕ) (out : List ℕ) (next i : ℕ) (u : LinesSoFar s index o at out next i) (count : ℕ) (most : i ≤ count) where
-  abbrev Lines : List ℕ → Written → Type 0
+  abbrev Lines : List ℕ → TextAdded → Type 0
   Lines e r = Adds o at (recordLines (recordsOf s s index count)) e r
 
   pub lines-end : count ≤ i → Lines out (Text next)
   lines-end h = let all : count ≡ i = omega arith in rw all u
 
-  module _ (more : i < count) (room : count ≤ length index) (e keys notes : List ℕ) (q : Written)
+  module _ (more : i < count) (room : count ≤ length index) (e keys notes : List ℕ) (q : TextAdded)
       (l : LineSays s (getD index i 0) out next e keys notes q) where
     with-line : Adds o at (recordLines (recordsOf s s index (i + 1))) e q
     with-line =
-        let r : Record = recordOf s s (getD index i 0) in
+        let r : Record = recordOfWord s s (getD index i 0) in
         adds-same (adds-then u refl (l .line))
         (ap recordLines (records-more s s index i (omega arith)) ∙ lines-append (recordsOf s s index i) (r ∷ [])
         ∙ ap (λ (x : List ℕ). recordLines (recordsOf s s index i) ++ x) (one-line-alone r))
 
     pub lines-more : (past : ℕ) → q ≡ Text past → LinesSoFar s index o at e past (i + 1)
-    lines-more past h = subst (λ (r : Written). Adds o at (recordLines (recordsOf s s index (i + 1))) e r) h with-line
+    lines-more past h = subst (λ (r : TextAdded). Adds o at (recordLines (recordsOf s s index (i + 1))) e r) h with-line
 
     pub lines-short : q ≡ NoRoom → Lines e NoRoom
     lines-short h =
-        let rest : List Record = map (recordOf s s) (take (count - (i + 1)) (drop (i + 1) index)) in
+        let rest : List Record = map (recordOfWord s s) (take (count - (i + 1)) (drop (i + 1) index)) in
         adds-same (adds-short with-line h (recordLines rest))
         (ap recordLines (records-split s s index (i + 1) count (omega arith)) ∙ lines-append (recordsOf s s index (i + 1)) rest)

@@ -2,36 +2,37 @@
 use Prim.Native.Nat.{ℕ, _+_, _≤_, _<_}
 use mathlib.Core.Path.{_≡_}
 use mathlib.Core.List.{List, [], _∷_, _++_}
-use lib.ListN.{length, take, drop}
+use lib.ListN.{length, take}
+use Rattle.value.specs.Value.{valueLength, valueIn}
 use Rattle.tree.specs.Record.{Record}
-use Rattle.row.specs.Row.{recordOf}
+use Rattle.row.specs.Row.{recordOfWord}
 use Rattle.row.specs.Memory.{Remembers}
 use Rattle.promises.specs.Listing.{hexadecimal, space, lineFeed, listing}
-use Rattle.listing.specs.declared.text.Written.{Written}
-use Rattle.listing.specs.declared.text.Written.the-variants.{Text, NoRoom}
+use Rattle.listing.specs.declared.text.TextAdded.{TextAdded}
+use Rattle.listing.specs.declared.text.TextAdded.the-variants.{Text, NoRoom}
 
 -- The text stands at the front of the output, or there is no room for it.
-abbrev pub Wrote : List ℕ → List ℕ → Written → Type 0
-Wrote out text (Text n) = (n ≡ length text) × (n ≤ length out) × (take n out ≡ text)
-Wrote out text NoRoom = length out < length text
+abbrev pub TextStands : List ℕ → List ℕ → TextAdded → Type 0
+TextStands out text (Text n) = (n ≡ length text) × (n ≤ length out) × (take n out ≡ text)
+TextStands out text NoRoom = length out < length text
 
 -- The text is added to whatever stands before the place.
-pub record Adds (entry : List ℕ) (at : ℕ) (text exit : List ℕ) (r : Written) : Type 0 where
-  pub adds : (before : List ℕ) → Wrote entry before (Text at) → Wrote exit (before ++ text) r
+pub record Adds (entry : List ℕ) (at : ℕ) (text exit : List ℕ) (r : TextAdded) : Type 0 where
+  pub adds : (before : List ℕ) → TextStands entry before (Text at) → TextStands exit (before ++ text) r
 
 -- What follows the key in a record's line.
 unfoldable pub lineEnd : List ℕ → List ℕ
 lineEnd value = space ∷ (hexadecimal value ++ (lineFeed ∷ []))
 
 pub record LineEndSays (s : List ℕ) (at : ℕ) (text : List ℕ) : Type 0 where
-  pub ends : at + 32 ≤ length s → text ≡ lineEnd (take 32 (drop at s))
+  pub ends : at + valueLength ≤ length s → text ≡ lineEnd (valueIn s at)
 
 abbrev pub lineOf : Record → List ℕ
 lineOf r = r .key ++ lineEnd (r .val)
 
 -- The line of the word's record is added, and the memory remembers.
-pub record LineSays (s : List ℕ) (word : ℕ) (entry : List ℕ) (at : ℕ) (exit keys notes : List ℕ) (r : Written) : Type 0 where
-  pub line : Adds entry at (lineOf (recordOf s s word)) exit r
+pub record LineSays (s : List ℕ) (word : ℕ) (entry : List ℕ) (at : ℕ) (exit keys notes : List ℕ) (r : TextAdded) : Type 0 where
+  pub line : Adds entry at (lineOf (recordOfWord s s word)) exit r
   pub remembers : Remembers s s keys notes
 
 -- The text is the listing of every input of which this was read: its first bytes, as many as the buffer holds.

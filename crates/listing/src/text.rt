@@ -1,7 +1,10 @@
 // The text for a register.
+use bytestring::write_bytes;
 use judge::Register;
 use judge::judge;
+use limits::MOST;
 use row::recall::recall;
+use value::VALUE;
 ghost use mathlib.Core.Path.{_≡_};
 ghost use mathlib.Core.List.{[], _∷_, _++_};
 ghost use Prim.Native.Nat.{_^_, _<_};
@@ -10,69 +13,65 @@ ghost use Rattle.io.specs.Counts.{Counts};
 ghost use Rattle.row.specs.Row.{Stands, Row, recordsOf};
 ghost use Rattle.row.specs.Memory.{Remembers};
 ghost use Rattle.promises.specs.Listing.{decimal, digits, hexDigit, lineFeed, recordLines, listing};
-ghost use Rattle.listing.specs.Text.{Wrote, Adds, LineEndSays, LineSays};
+ghost use Rattle.listing.specs.Text.{TextStands, Adds, LineEndSays, LineSays};
 
 // A text's length, or that there is no room for it.
-pub enum Written {
+pub enum TextAdded {
     Text(usize),
     NoRoom,
 }
 
 // One byte, at a place.
-fn add_byte(out: &mut [u8], at: usize, byte: u8) -> Written
+fn add_byte(out: &mut [u8], at: usize, byte: u8) -> TextAdded
     ensures { λ r. ⌜ Adds (now (out .entry)) at (byte ∷ []) (now (out .exit)) r ⌝ }
 {
     if out.len() <= at {
-        return Written::NoRoom;
+        return TextAdded::NoRoom;
     }
     out[at] = byte;
-    Written::Text(at + 1)
+    TextAdded::Text(at + 1)
 }
 
 // These bytes, at a place.
-fn add(out: &mut [u8], at: usize, bytes: &[u8]) -> Written
+fn add(out: &mut [u8], at: usize, bytes: &[u8]) -> TextAdded
     ensures { λ r. ⌜ Adds (now (out .entry)) at (now (bytes .entry)) (now (out .exit)) r ⌝ }
 {
     if out.len() < at {
-        return Written::NoRoom;
+        return TextAdded::NoRoom;
     }
     if out.len() - at < bytes.len() {
-        return Written::NoRoom;
+        return TextAdded::NoRoom;
     }
-    let mut i = 0;
-    while i < bytes.len() {
-        out[at + i] = bytes[i];
-        i += 1;
-    }
-    Written::Text(at + i)
+    write_bytes(&mut out[at..], bytes);
+    TextAdded::Text(at + bytes.len())
 }
 
 // A number in decimal, of at most so many digits.
-fn add_digits(out: &mut [u8], at: usize, most: usize, n: usize) -> Written
+fn add_digits(out: &mut [u8], at: usize, most: usize, n: usize) -> TextAdded
     ensures { λ r. ⌜ Adds (now (out .entry)) at (digits most n) (now (out .exit)) r ⌝ }
 {
     if most == 0 {
-        return Written::Text(at);
+        return TextAdded::Text(at);
     }
     if n < 10 {
         return add_byte(out, at, 0x30 + n as u8);
     }
     match add_digits(out, at, most - 1, n / 10) {
-        Written::Text(next) => add_byte(out, next, 0x30 + (n % 10) as u8),
-        Written::NoRoom => Written::NoRoom,
+        TextAdded::Text(next) => add_byte(out, next, 0x30 + (n % 10) as u8),
+        TextAdded::NoRoom => TextAdded::NoRoom,
     }
 }
 
 // The first line: a word and a number.
-fn add_first_line(out: &mut [u8], word: &[u8], n: usize) -> Written
+fn add_first_line(out: &mut [u8], word: &[u8], n: usize) -> TextAdded
     ensures { λ r. ⌜ Adds (now (out .entry)) 0 (now (word .entry) ++ (decimal n ++ (lineFeed ∷ []))) (now (out .exit)) r ⌝ }
 {
     match add(out, 0, word) {
-        Written::Text(first) => match add_digits(out, first, 20, n) {
-            Written::Text(next) => add_byte(out, next, 0x0A),
-            Written::NoRoom => Written::NoRoom,
+        TextAdded::Text(first) => match add_digits(out, first, 20, n) {
+            TextAdded::Text(next) => add_byte(out, next, 0x0A),
+            TextAdded::NoRoom => TextAdded::NoRoom,
         },
-        Written::NoRoom => Written::NoRoom,
+        TextAdded::NoRoom => TextAdded::NoRoom,
     }
 }
 
@@ -88,14 +87,14 @@ fn line_end(s: &[u8], at: usize) -> [u8; 66]
     ensures { λ r. ⌜ LineEndSays (now (s .entry)) at r ⌝ }
 {
     let mut text = [0x20u8; 66];
-    if s.len() < 32 {
+    if s.len() < VALUE {
         return text;
     }
-    if s.len() - 32 < at {
+    if s.len() - VALUE < at {
         return text;
     }
     let mut i = 0;
-    while i < 32 {
+    while i < VALUE {
         let byte = s[at + i];
         text[2 * i + 1] = hex_digit(byte / 16);
         text[2 * i + 2] = hex_digit(byte % 16);
@@ -113,7 +112,7 @@ fn add_line(
     word: u64,
     keys: &mut [u8],
     notes: &mut [u64],
-) -> Written
+) -> TextAdded
     requires { ⌜ (length (now s) < 2 ^ 24) × Stands (now s) (now s) word × Remembers (now s) (now s) (now keys) (now notes) × (length (now notes) ≡ 64) ⌝ }
     ensures { λ r. ⌜ LineSays (now (s .entry)) word (now (out .entry)) at (now (out .exit)) (now (keys .exit)) (now (notes .exit)) r ⌝ }
 {
@@ -121,16 +120,16 @@ fn add_line(
     let from = found.from;
     let to = from + found.size;
     match add(out, at, &keys[from..to]) {
-        Written::Text(next) => {
+        TextAdded::Text(next) => {
             let rest = line_end(s, found.value);
             add(out, next, &rest)
         }
-        Written::NoRoom => Written::NoRoom,
+        TextAdded::NoRoom => TextAdded::NoRoom,
     }
 }
 
 // The lines of all records.
-fn add_lines(out: &mut [u8], at: usize, s: &[u8], index: &[u64], count: usize) -> Written
+fn add_lines(out: &mut [u8], at: usize, s: &[u8], index: &[u64], count: usize) -> TextAdded
     requires { ⌜ Row (now s) (now s) (now index) count ⌝ }
     ensures { λ r. ⌜ Adds (now (out .entry)) at (recordLines (recordsOf (now (s .entry)) (now (s .entry)) (now (index .entry)) count)) (now (out .exit)) r ⌝ }
 {
@@ -140,36 +139,36 @@ fn add_lines(out: &mut [u8], at: usize, s: &[u8], index: &[u64], count: usize) -
     let mut i = 0;
     while i < count {
         match add_line(out, next, s, index[i], &mut keys, &mut notes) {
-            Written::Text(past) => {
+            TextAdded::Text(past) => {
                 next = past;
             }
-            Written::NoRoom => {
-                return Written::NoRoom;
+            TextAdded::NoRoom => {
+                return TextAdded::NoRoom;
             }
         }
         i += 1;
     }
-    Written::Text(next)
+    TextAdded::Text(next)
 }
 
 // The listing of what was read, where there is room for it.
-fn write_listing(s: &[u8], out: &mut [u8]) -> Written
-    ensures { λ r. ⌜ Wrote (now (out .exit)) (listing (now (s .entry))) r ⌝ }
+fn write_listing(s: &[u8], out: &mut [u8]) -> TextAdded
+    ensures { λ r. ⌜ TextStands (now (out .exit)) (listing (now (s .entry))) r ⌝ }
 {
     if 65536 < s.len() {
         return add_first_line(out, b"refused ", 1);
     }
-    let mut index = [0u64; 4096];
-    let mut chains = [0u64; 8192];
+    let mut index = [0u64; MOST];
+    let mut chains = [0u64; 2 * MOST];
     match judge(s, &mut index, &mut chains) {
         Register::Accepted(count, _) => match add_first_line(out, b"records ", count) {
-            Written::Text(at) => add_lines(out, at, s, &index, count),
-            Written::NoRoom => Written::NoRoom,
+            TextAdded::Text(at) => add_lines(out, at, s, &index, count),
+            TextAdded::NoRoom => TextAdded::NoRoom,
         },
         Register::Refused(refusal) => add_first_line(
             out,
             b"refused ",
-            answer::number(refusal) as usize,
+            answer::number_of(refusal) as usize,
         ),
     }
 }
@@ -179,7 +178,7 @@ pub fn list_input(s: &[u8], out: &mut [u8; 524288]) -> usize
     ensures { λ r. ⌜ Counts r (now (out .exit)) × (take r (now (out .exit)) ≡ listing (now (s .entry))) ⌝ }
 {
     match write_listing(s, out) {
-        Written::Text(length) => length,
-        Written::NoRoom => 0,
+        TextAdded::Text(length) => length,
+        TextAdded::NoRoom => 0,
     }
 }

@@ -1,4 +1,6 @@
 // The C interface. A slice is a pointer and a length. An answer is one number: the refusal's number alone, or 256 times the value.
+use value::Digest;
+use value::Value;
 ghost use mathlib.Core.Path.{_≡_};
 ghost use Rattle.answer.specs.Answer.{encoded, encodedDifference};
 ghost use Rattle.sha256.specs.Digest.{digestAnswer, digestOutput};
@@ -10,7 +12,7 @@ ghost use Rattle.promises.specs.Range.{atOrAfterOutcome, beforeOutcome, runOutc
 ghost use Rattle.promises.specs.Outcome.{checkAnswer, lookupAnswer, listOutcome, listAnswer, listKey, listValue, putOutcome, joinOutcome, removeOutcome, mergeOutcome, answerOf, outputOf};
 
 #[no_mangle]
-pub extern "C" fn mijdegen_digest(input: &[u8], out: &mut [u8; 32]) -> u64
+pub extern "C" fn mijdegen_digest(input: &[u8], out: &mut Digest) -> u64
     ensures answer { λ r. ⌜ r ≡ encoded (digestAnswer (now (input .entry))) ⌝ }
     ensures output { λ _. ⌜ now (out .exit) ≡ digestOutput (now (input .entry)) ⌝ }
 {
@@ -21,14 +23,14 @@ pub extern "C" fn mijdegen_digest(input: &[u8], out: &mut [u8; 32]) -> u64
 pub extern "C" fn mijdegen_layer(input: &[u8]) -> u64
     ensures { λ r. ⌜ r ≡ encoded (layerAnswer (now (input .entry))) ⌝ }
 {
-    answer::encode(key::layer(input))
+    answer::encode(key_calls::layer(input))
 }
 
 #[no_mangle]
 pub extern "C" fn mijdegen_slash(input: &[u8]) -> u64
     ensures { λ r. ⌜ r ≡ encoded (slashAnswer (now (input .entry))) ⌝ }
 {
-    answer::encode(key::slash(input))
+    answer::encode(key_calls::slash(input))
 }
 
 #[no_mangle]
@@ -46,7 +48,7 @@ pub extern "C" fn mijdegen_lookup(lent: &[u8], sought: &[u8]) -> u64
 }
 
 #[no_mangle]
-pub extern "C" fn mijdegen_list(lent: &[u8], n: u64, out: &mut [u8], value: &mut [u8; 32]) -> u64
+pub extern "C" fn mijdegen_list(lent: &[u8], n: u64, out: &mut [u8], value: &mut Value) -> u64
     ensures answer { λ r. ⌜ r ≡ encoded (listAnswer (listOutcome (now (lent .entry)) n (length (now (out .entry))))) ⌝ }
     ensures key { λ _. ⌜ now (out .exit) ≡ listKey (listOutcome (now (lent .entry)) n (length (now (out .entry)))) (length (now (out .entry))) ⌝ }
     ensures value { λ _. ⌜ now (value .exit) ≡ listValue (listOutcome (now (lent .entry)) n (length (now (out .entry)))) ⌝ }
@@ -59,7 +61,7 @@ pub extern "C" fn mijdegen_at_or_after(
     lent: &[u8],
     sought: &[u8],
     out: &mut [u8],
-    value: &mut [u8; 32],
+    value: &mut Value,
 ) -> u64
     ensures answer { λ r. ⌜ r ≡ encoded (listAnswer (atOrAfterOutcome (now (lent .entry)) (now (sought .entry)) (length (now (out .entry))))) ⌝ }
     ensures key { λ _. ⌜ now (out .exit) ≡ listKey (atOrAfterOutcome (now (lent .entry)) (now (sought .entry)) (length (now (out .entry)))) (length (now (out .entry))) ⌝ }
@@ -73,7 +75,7 @@ pub extern "C" fn mijdegen_before(
     lent: &[u8],
     sought: &[u8],
     out: &mut [u8],
-    value: &mut [u8; 32],
+    value: &mut Value,
 ) -> u64
     ensures answer { λ r. ⌜ r ≡ encoded (listAnswer (beforeOutcome (now (lent .entry)) (now (sought .entry)) (length (now (out .entry))))) ⌝ }
     ensures key { λ _. ⌜ now (out .exit) ≡ listKey (beforeOutcome (now (lent .entry)) (now (sought .entry)) (length (now (out .entry)))) (length (now (out .entry))) ⌝ }
@@ -119,7 +121,7 @@ pub extern "C" fn mijdegen_merge(first: &[u8], second: &[u8], out: &mut [u8]) ->
     ensures answer { λ r. ⌜ r ≡ encoded (answerOf (mergeOutcome (now (first .entry)) (now (second .entry)) (length (now (out .entry))))) ⌝ }
     ensures output { λ _. ⌜ now (out .exit) ≡ outputOf (mergeOutcome (now (first .entry)) (now (second .entry)) (length (now (out .entry)))) (length (now (out .entry))) ⌝ }
 {
-    answer::encode(register::merge(first, second, out))
+    answer::encode(merging::merge(first, second, out))
 }
 
 #[no_mangle]
@@ -127,5 +129,5 @@ pub extern "C" fn mijdegen_difference(first: &[u8], second: &[u8], out: &mut [u8
     ensures answer { λ r. ⌜ r ≡ encodedDifference (differenceAnswer (differenceOutcome (now (first .entry)) (now (second .entry)) (length (now (out .entry))))) ⌝ }
     ensures output { λ _. ⌜ now (out .exit) ≡ differenceOutput (differenceOutcome (now (first .entry)) (now (second .entry)) (length (now (out .entry)))) (length (now (out .entry))) ⌝ }
 {
-    answer::encode_difference(register::difference(first, second, out))
+    answer::encode_difference(differing::difference(first, second, out))
 }

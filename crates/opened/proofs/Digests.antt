@@ -2,23 +2,25 @@
 use Prim.Native.Nat.{ℕ, _+_}
 use mathlib.Core.Path.{_≡_, refl, sym, _∙_}
 use mathlib.Core.Bool.{Bool, true, false, not, _&&_, _||_, or-assoc, or-false}
-use mathlib.Core.List.{List, [], _∷_, _++_, append-assoc, append-nil}
+use mathlib.Core.List.{List, [], _∷_, _++_, append-nil}
 use lib.ListN.{length}
 use borrow.Table.Steps.{cases}
 use borrow.Author.Tests.{not-true}
+use Rattle.bytestring.proofs.Equal.{equal-true, equal-cases}
+use Rattle.bytestring.specs.Bytes.{equal}
+use Rattle.bytestring.proofs.Tools.{and-inv}
 use Rattle.fips180.specs.Hash.{sha256}
-use Rattle.page.proofs.Tools.{and-inv}
 use Rattle.tree.specs.Tree.{page, Gap, empty, under, Entries, end, entry, itemsUnder}
 use Rattle.tree.specs.Record.{Spelt}
 use Rattle.tree.specs.Table.{SpeltTree, bytesOfPage, tableUnder}
-use Rattle.tree.specs.Judge.{equal, digestsRight, digestsRightUnder, digestsRightFrom}
-use Rattle.tree.proofs.Tests.{equal-true, equal-cases}
+use Rattle.tree.specs.Judge.{digestsRight, digestsRightUnder, digestsRightFrom}
 use Rattle.tree.proofs.Laws.{noLink}
 use Rattle.index.specs.Slot.{bare, filled, filledUnder, filledFrom}
 use Rattle.index.specs.Chain.{Chain, chains, chainsUnder, chainsFrom, labelsOn, chainIf}
-use Rattle.promises.specs.Pages.{pagesOf, pagesUnder, pagesFrom, known}
-use Rattle.opened.specs.Known.{isAmong}
-use Rattle.opened.specs.Rows.{labelsOf}
+use Rattle.promises.specs.Pages.{pagesOf, pagesOfGap, pagesOfEntries, known}
+use Rattle.known.specs.Known.{isAmong}
+use Rattle.known.specs.Rows.{labelsOf}
+use Rattle.known.proofs.Filling.{labels-append}
 use Rattle.opened.proofs.Visits.{has-entry}
 
 -- ---- tests of membership
@@ -35,11 +37,6 @@ unfolding known
 known-append [] qs p = refl
 known-append (x ∷ ps) qs p = rw (known-append ps qs p) (sym (or-assoc (equal (sha256 p) (sha256 x)) (known ps p) (known qs p)))
 
-pub labels-append : (xs ys : List Chain) → labelsOf (xs ++ ys) ≡ labelsOf xs ++ labelsOf ys
-unfolding labelsOf
-labels-append [] ys = refl
-labels-append (c ∷ xs) ys = rw (labels-append xs ys) (simp append-assoc)
-
 -- ---- by induction on the tree
 module _ (p : List ℕ) where
   abbrev mark : List ℕ
@@ -53,30 +50,30 @@ module _ (p : List ℕ) where
 
   -- the pages below the first one
   unfoldable pagesBelow : SpeltTree → List (List ℕ)
-  pagesBelow (page g es) = pagesUnder g ++ pagesFrom es
+  pagesBelow (page g es) = pagesOfGap g ++ pagesOfEntries es
 
   abbrev TreeHas : ℕ → ℕ → List (List ℕ) → SpeltTree → Type 0
   TreeHas from at labels t = has (chains from at labels t) ≡ ((not (bare t) && isAmong labels mark) || known (pagesBelow t) p)
 
   abbrev GapHas : ℕ → ℕ → List (List ℕ) → Gap Spelt (List ℕ) → Type 0
-  GapHas from at labels g = has (chainsUnder from at labels g) ≡ ((not (noLink g) && isAmong labels mark) || known (pagesUnder g) p)
+  GapHas from at labels g = has (chainsUnder from at labels g) ≡ ((not (noLink g) && isAmong labels mark) || known (pagesOfGap g) p)
 
   abbrev RowHas : ℕ → ℕ → Entries Spelt (List ℕ) → Type 0
-  RowHas from at es = has (chainsFrom from at es) ≡ known (pagesFrom es) p
+  RowHas from at es = has (chainsFrom from at es) ≡ known (pagesOfEntries es) p
 
   gap-link : (from at : ℕ) (labels : List (List ℕ)) (d : List ℕ) (q : SpeltTree) → d ≡ sha256 (bytesOfPage q) → bare q ≡ false
       → TreeHas from at (labels ++ (d ∷ [])) q → GapHas from at labels (under d q)
   unfolding chains pagesOf pagesBelow noLink isAmong known
   gap-link from at labels d (page g es) e h k =
       k ∙ rw (h, among-append labels (d ∷ []) mark, e, or-false (equal (sha256 (bytesOfPage (page g es))) mark), equal-turned (sha256 (bytesOfPage (page g es))) mark)
-      (or-assoc (isAmong labels mark) (equal mark (sha256 (bytesOfPage (page g es)))) (known (pagesUnder g ++ pagesFrom es) p))
+      (or-assoc (isAmong labels mark) (equal mark (sha256 (bytesOfPage (page g es)))) (known (pagesOfGap g ++ pagesOfEntries es) p))
 
   -- a gap that no labels lead to, with the row after it
   gap-and-row : (from at from′ at′ : ℕ) (g : Gap Spelt (List ℕ)) (es : Entries Spelt (List ℕ)) → GapHas from at [] g → RowHas from′ at′ es
-      → has (chainsUnder from at [] g ++ chainsFrom from′ at′ es) ≡ known (pagesUnder g ++ pagesFrom es) p
+      → has (chainsUnder from at [] g ++ chainsFrom from′ at′ es) ≡ known (pagesOfGap g ++ pagesOfEntries es) p
   unfolding isAmong
   gap-and-row from at from′ at′ g es h k =
-      rw (has-append (chainsUnder from at [] g) (chainsFrom from′ at′ es), h, k, known-append (pagesUnder g) (pagesFrom es) p)
+      rw (has-append (chainsUnder from at [] g) (chainsFrom from′ at′ es), h, k, known-append (pagesOfGap g) (pagesOfEntries es) p)
       (cases (noLink g) (λ z. rw z) (λ z. rw z))
 
   page-has : (from at : ℕ) (labels : List (List ℕ)) (g : Gap Spelt (List ℕ)) (es : Entries Spelt (List ℕ))

@@ -1,12 +1,7 @@
-pub mod Roots
-pub mod LinkTable
-pub mod ChainRows
-pub mod Labels
 pub mod Picks
 pub mod OpenFlags
 pub mod Visits
 pub mod Digests
-pub mod Filling
 pub mod Marking
 pub mod Staging
 pub mod Parts

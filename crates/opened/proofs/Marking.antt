@@ -1,24 +1,22 @@
 -- The marks of chains: how many labels stand before one that is known.
-use Prim.Native.Nat.{ℕ, zero, suc, _+_, _-_, _*_, _≤_, _<_}
+use Prim.Native.Nat.{ℕ, zero, suc, _+_, _*_, _≤_, _<_}
 use mathlib.Core.Path.{_≡_, refl, sym, _∙_}
-use mathlib.Core.Bool.{Bool, true, false, cond, not}
+use mathlib.Core.Bool.{true, false, cond, not}
 use mathlib.Core.List.{List, [], _∷_, _++_}
 use native.Mathlib.Omega.{arith}
-use native.Mathlib.Numerals.{add-one}
 use lib.ListN.{length, take, drop, getD, set, drop-of-length-le}
-use lib.Seq.{getD-set-same, getD-set-other, getD-take, length-take-le, drop-cons, drop-drop}
+use lib.Seq.{getD-set-same, getD-set-other, length-take-le, drop-cons, drop-drop}
 use lib.Dec.{eqb, ltb}
 use borrow.Author.Tests.{eqb-true, eqb-false, lt-ltb, le-ltb}
 use borrow.Table.Steps.{cases}
-use Rattle.page.proofs.Tools.{and-inv}
-use Rattle.index.specs.Word.{belowIn}
-use Rattle.index.specs.Chain.{Chain}
-use Rattle.opened.specs.Rows.{Inside, Nested, noChain, Chained, SomeChains, labelCount, labelPlace, LabelsStand}
-use Rattle.opened.specs.Known.{isAmong, Linked, Tabled, digestsIn, IsKnown}
-use Rattle.opened.specs.Visits.{before, noneAmong, MarksAt}
-use Rattle.opened.specs.Passing.{OpenLabels, Marked, Lowered}
-use Rattle.opened.proofs.LinkTable.{part-from}
-use Rattle.opened.proofs.Labels.{row-labels}
+use Rattle.bytestring.proofs.Tools.{and-inv}
+use Rattle.word.specs.Word.{belowIn}
+use Rattle.index.specs.Chain.{Chain, noChain}
+use Rattle.known.specs.Rows.{Inside, Nested, Chained, SomeChains, labelCount, LabelsStand}
+use Rattle.known.specs.Known.{isAmong, Linked, Tabled, digestsIn, labelsBefore, OpenLabels}
+use Rattle.opened.specs.Visits.{noneAmong, MarksAt}
+use Rattle.opened.specs.Passing.{Marked, Lowered}
+use Rattle.known.proofs.Labels.{row-labels}
 use Rattle.opened.proofs.Digests.{among-append}
 use Rattle.opened.proofs.Visits.{before-none}
 
@@ -30,26 +28,26 @@ begun-more f marks i v l e g j h =
     (λ z. getD-set-other marks i j v 0 (eqb-false j i z) ∙ g j (omega (arith, eqb-false j i z)))
 
 -- ---- labels before a known one
-pub before-le : (ds labels : List (List ℕ)) → before ds labels ≤ length labels
-unfolding before
+pub before-le : (ds labels : List (List ℕ)) → labelsBefore ds labels ≤ length labels
+unfolding labelsBefore
 before-le ds [] = omega arith
 before-le ds (d ∷ labels) = cases (isAmong ds d) (λ z. rw z (omega arith)) (λ z. rw z (omega (arith, before-le ds labels)))
 
-pub before-some : (ds labels : List (List ℕ)) → noneAmong ds labels ≡ false → before ds labels < length labels
-unfolding before noneAmong
+pub before-some : (ds labels : List (List ℕ)) → noneAmong ds labels ≡ false → labelsBefore ds labels < length labels
+unfolding labelsBefore noneAmong
 before-some ds [] h = let z : _≡_ {A = ℕ} 0 1 = cc in absurd (omega arith)
 before-some ds (d ∷ labels) h =
     cases (isAmong ds d) (λ z. rw z (omega arith)) (λ z. rw z (omega (arith, before-some ds labels (rw z at h))))
 
-pub closed-chain : (ds labels : List (List ℕ)) (k : ℕ) → cond (ltb (before ds labels) (length labels)) k 0 ≡ cond (noneAmong ds labels) 0 k
+pub closed-chain : (ds labels : List (List ℕ)) (k : ℕ) → cond (ltb (labelsBefore ds labels) (length labels)) k 0 ≡ cond (noneAmong ds labels) 0 k
 closed-chain ds labels k =
     cases (noneAmong ds labels)
-    (λ z. rw (z, le-ltb (before ds labels) (length labels) (omega (arith, before-none ds labels z))))
-    (λ z. rw (z, lt-ltb (before ds labels) (length labels) (before-some ds labels z)))
+    (λ z. rw (z, le-ltb (labelsBefore ds labels) (length labels) (omega (arith, before-none ds labels z))))
+    (λ z. rw (z, lt-ltb (labelsBefore ds labels) (length labels) (before-some ds labels z)))
 
 -- more digests
-before-both : (ds es labels : List (List ℕ)) → before (ds ++ es) labels ≡ before es (take (before ds labels) labels)
-unfolding before
+before-both : (ds es labels : List (List ℕ)) → labelsBefore (ds ++ es) labels ≡ labelsBefore es (take (labelsBefore ds labels) labels)
+unfolding labelsBefore
 before-both ds es [] = refl
 before-both ds es (d ∷ labels) =
     cases (isAmong ds d)
@@ -63,50 +61,6 @@ none-both ds es (d ∷ labels) h =
     cases (isAmong ds d)
     (λ z. let e : false ≡ true = rw (among-append ds es d, z) at h in let y : _≡_ {A = ℕ} 0 1 = cc in absurd (omega arith))
     (λ z. rw z (none-both ds es labels (and-inv (not (isAmong (ds ++ es) d)) h .1)))
-
--- ---- label by label
-module _ (s heads words root u : List ℕ) (w most : ℕ) where
-  abbrev digests : ℕ → List (List ℕ)
-  digests count = root ∷ digestsIn s (take count words)
-
-  -- the first k labels are not known
-  abbrev pub OpenSoFar : ℕ → Type 0
-  OpenSoFar k =
-      (labels : List (List ℕ)) → LabelsStand u w labels → (count : ℕ) → Linked s heads words count
-      → before (root ∷ digestsIn s (take count words)) (take most labels) ≡ k + before (root ∷ digestsIn s (take count words)) (drop k (take most labels))
-
-  pub none-tried : OpenSoFar 0
-  none-tried labels x count l = omega arith
-
-  module _ (fits : most ≤ labelCount w) (k : ℕ) (so-far : OpenSoFar k) where
-    pub open-all : most ≤ k → k ≤ most → OpenLabels s heads words root u w most k
-    unfolding before
-    open-all h g labels x count l =
-        let n = length-take-le most labels (omega (arith, x .count)) in
-        let e : drop k (take most labels) ≡ [] = drop-of-length-le (take most labels) {i = k} (omega (arith, n)) in
-        let z : before (digests count) (drop k (take most labels)) ≡ 0 = rw e in
-        omega (arith, so-far labels x count l, z)
-
-    module _ (h : k < most) (at : ℕ) (e : at ≡ labelPlace w k) (a : Bool) (ea : IsKnown s heads words root (take (at + 32 - at) (drop at u)) a) where
-      next-label : (labels : List (List ℕ)) → LabelsStand u w labels → (count : ℕ) → Linked s heads words count
-          → before (digests count) (drop k (take most labels)) ≡ cond a 0 (suc (before (digests count) (drop (suc k) (take most labels))))
-      unfolding before
-      next-label labels x count l =
-          let n = length-take-le most labels (omega (arith, x .count)) in
-          let label : getD (take most labels) k [] ≡ take 32 (drop at u) =
-          getD-take most labels k [] h ∙ sym (x .stand k (omega (arith, x .count)) .bytes) ∙ rw e in
-          let test : isAmong (digests count) (take 32 (drop at u)) ≡ a = sym (ea count l ∙ rw (part-from u at)) in
-          rw (drop-cons (take most labels) k [] (omega (arith, n)), label, test)
-
-      pub open-stops : a ≡ true → OpenLabels s heads words root u w most k
-      open-stops q labels x count l =
-          let z : before (digests count) (drop k (take most labels)) ≡ 0 = next-label labels x count l ∙ rw q in
-          omega (arith, so-far labels x count l, z)
-
-      pub open-more : a ≡ false → OpenSoFar (k + 1)
-      open-more q labels x count l =
-          let z : before (digests count) (drop k (take most labels)) ≡ suc (before (digests count) (drop (suc k) (take most labels))) = next-label labels x count l ∙ rw q in
-          rw (add-one k) (omega (arith, so-far labels x count l, z))
 
 -- ---- marks of visited chains
 pub marks-agree : (ds : List (List ℕ)) (a b : List ℕ) (i k : ℕ) (cs : List Chain) → ((j : ℕ) → i ≤ j → getD b j 0 ≡ getD a j 0) → MarksAt ds a i k cs → MarksAt ds b i k cs
@@ -189,7 +143,7 @@ module _ (s heads words root u row : List ℕ) (m : ℕ) where
     stands : LabelsStand u (getD row (2 * i) 0) (chain .labels)
     stands = row-labels u row m i h cs x
 
-    here : (getD marks i 0 ≡ before ds (chain .labels)) × MarksAt ds marks (suc i) (cond (noneAmong ds (chain .labels)) 0 (chain .below)) later
+    here : (getD marks i 0 ≡ labelsBefore ds (chain .labels)) × MarksAt ds marks (suc i) (cond (noneAmong ds (chain .labels)) 0 (chain .below)) later
     unfolding MarksAt
     here = rw at-chain at (so-far ds cs x begun count l .left)
 
@@ -201,7 +155,7 @@ module _ (s heads words root u row : List ℕ) (m : ℕ) where
       abbrev all : List (List ℕ)
       all = ds ++ more count
 
-      mark-is : mark ≡ before all (chain .labels)
+      mark-is : mark ≡ labelsBefore all (chain .labels)
       mark-is = known (chain .labels) stands count l ∙ rw (here .0) (sym (before-both ds (more count) (chain .labels)))
 
       passed-is : passed ≡ cond (noneAmong all (chain .labels)) 0 (chain .below)

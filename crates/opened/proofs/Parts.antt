@@ -7,22 +7,23 @@ use native.Mathlib.Omega.{arith}
 use lib.ListN.{length, take, drop, getD, take-append-drop}
 use lib.Seq.{take-all}
 use borrow.Author.Tests.{not-true, not-false}
-use Rattle.fips180.specs.Bytes.{Bytes}
+use Rattle.bytestring.specs.Bytes.{Bytes, equal}
 use Rattle.fips180.specs.Hash.{sha256}
 use Rattle.tree.specs.Table.{SpeltTree, bytesOfPage}
-use Rattle.tree.specs.Judge.{equal, accepted, judge}
+use Rattle.tree.specs.Judge.{accepted, judge}
 use Rattle.tree.proofs.Accept.{accepted-table}
 use Rattle.index.specs.Accepted.{ChainRow}
-use Rattle.index.specs.Chain.{Chain, chains}
+use Rattle.index.specs.Chain.{Chain, chains, noChain}
 use Rattle.promises.specs.Pages.{known}
-use Rattle.opened.specs.Rows.{noChain, Chained, SomeChains, labelsOf, labelCount}
-use Rattle.opened.specs.Known.{isAmong, Tabled, digestsIn, Filled, IsKnown}
-use Rattle.opened.specs.Visits.{before, noneAmong, MarksAt}
+use Rattle.known.specs.Rows.{Chained, SomeChains, labelsOf, labelCount}
+use Rattle.known.specs.Known.{isAmong, Tabled, digestsIn, Filled, IsKnown, labelsBefore}
+use Rattle.opened.specs.Visits.{noneAmong, MarksAt}
 use Rattle.opened.specs.Passing.{Marked, Lowered, TookPart, AllMarked}
 use Rattle.opened.specs.declared.pass.Part.{Part}
-use Rattle.opened.proofs.ChainRows.{accepted-filled, row-chained}
-use Rattle.opened.proofs.Labels.{row-labels}
-use Rattle.opened.proofs.Digests.{among-append, labels-append}
+use Rattle.known.proofs.ChainRows.{accepted-filled, row-chained}
+use Rattle.known.proofs.Labels.{row-labels}
+use Rattle.known.proofs.Filling.{labels-append}
+use Rattle.opened.proofs.Digests.{among-append}
 use Rattle.opened.proofs.Visits.{root-spans}
 
 -- ---- the chains of a register that is accepted
@@ -54,8 +55,8 @@ part-taken s known n start root u row m top marks marks′ heads words next foun
 
 -- ---- marks by the same tests
 module _ (ds es : List (List ℕ)) (same : (d : List ℕ) → isAmong ds d ≡ isAmong es d) where
-  before-same : (labels : List (List ℕ)) → before ds labels ≡ before es labels
-  unfolding before
+  before-same : (labels : List (List ℕ)) → labelsBefore ds labels ≡ labelsBefore es labels
+  unfolding labelsBefore
   before-same [] = refl
   before-same (d ∷ labels) = rw (same d, before-same labels)
 
@@ -73,7 +74,7 @@ module _ (ds es : List (List ℕ)) (same : (d : List ℕ) → isAmong ds d ≡ i
 
 -- ---- at first
 begun-from : (marks : List ℕ) (i : ℕ) (cs : List Chain) → ((j : ℕ) → j < length cs → getD marks (i + j) 0 ≡ length (getD cs j noChain .labels)) → MarksAt [] marks i 0 cs
-unfolding MarksAt before noneAmong isAmong
+unfolding MarksAt labelsBefore noneAmong isAmong
 begun-from marks i [] f = tt
 begun-from marks i (c ∷ cs) f =
     let none = none-known (c .labels) in
@@ -86,7 +87,7 @@ begun-from marks i (c ∷ cs) f =
     none-known [] = refl
     none-known (d ∷ labels) = none-known labels
 
-    all-before : (labels : List (List ℕ)) → before [] labels ≡ length labels
+    all-before : (labels : List (List ℕ)) → labelsBefore [] labels ≡ length labels
     all-before [] = refl
     all-before (d ∷ labels) = ap suc (all-before labels)
 

@@ -1,5 +1,5 @@
 -- The last pass: words are copied, and the kept records are staged.
-use Prim.Native.Nat.{ℕ, zero, suc, _+_, _-_, _*_, _^_, _≤_, _<_}
+use Prim.Native.Nat.{ℕ, zero, suc, _+_, _-_, _*_, _≤_, _<_}
 use mathlib.Core.Path.{_≡_, refl, sym, ap, _∙_}
 use mathlib.Core.Bool.{Bool, true, false, cond}
 use mathlib.Core.List.{List, [], _∷_, _++_, append-assoc, append-nil}
@@ -8,18 +8,19 @@ use native.Mathlib.Numerals.{add-one}
 use lib.ListN.{length, take, drop, getD, set, length-drop, length-map, replicate, drop-of-length-le}
 use lib.Seq.{take-suc, take-suc-set, getD-drop, drop-drop, drop-cons}
 use borrow.Table.Steps.{cases}
-use Rattle.index.specs.Word.{fromIn, recordsIn, belowIn}
-use Rattle.index.specs.Chain.{Chain, ChainWords}
-use Rattle.opened.specs.Rows.{noChain, Chained, labelCount, LabelsStand}
-use Rattle.opened.specs.Visits.{before, noneAmong, visited, openIn, kept, Ordered, MarksAt}
+use Rattle.word.specs.Word.{secondWord, fromIn, recordsIn, belowIn}
+use Rattle.index.specs.Chain.{Chain, ChainWords, noChain}
+use Rattle.known.specs.Rows.{Chained, labelCount, LabelsStand}
+use Rattle.known.specs.Known.{labelsBefore}
+use Rattle.opened.specs.Visits.{noneAmong, visited, openIn, kept, Ordered, MarksAt}
 use Rattle.opened.specs.Passing.{pick, marked, Copied, Staging, SomeStaging, KeptStaged}
 use Rattle.opened.proofs.Picks.{pick-none}
-use Rattle.opened.proofs.Labels.{row-labels}
+use Rattle.known.proofs.Labels.{row-labels}
 use Rattle.opened.proofs.Visits.{visited-skip, ordered-le, before-none}
 use Rattle.opened.proofs.Marking.{before-le, before-some, marks-skip}
 
 -- ---- words
-word-at : (index : List ℕ) (i : ℕ) → i < length index → getD (marked index) i 0 ≡ getD index i 0 + 2 ^ 60
+word-at : (index : List ℕ) (i : ℕ) → i < length index → getD (marked index) i 0 ≡ secondWord (getD index i 0)
 word-at [] i h = absurd (omega arith)
 word-at (w ∷ index) zero h = refl
 word-at (w ∷ index) (suc i) h = word-at index i (omega arith)
@@ -32,15 +33,15 @@ pub none-copied : (index row : List ℕ) (from at : ℕ) → Copying index row f
 none-copied index row from at = let e : from - from ≡ 0 = omega arith in rw e (sym (append-nil (take at row)))
 
 pub one-copied : (index row₀ : List ℕ) (from at : ℕ) (row : List ℕ) (i k : ℕ) → Copying index row₀ from at row i k → from ≤ i → i < length index → k < length row
-    → Copying index row₀ from at (set row k (getD index i 0 + 2 ^ 60)) (i + 1) (k + 1)
+    → Copying index row₀ from at (set row k (secondWord (getD index i 0))) (i + 1) (k + 1)
 one-copied index row₀ from at row i k so-far h l room =
     let e : i + 1 - from ≡ suc (i - from) = omega arith in
     let words : List ℕ = drop from (marked index) in
-    let n : length words ≡ length index - from = length-drop from (marked index) ∙ ap (λ (x : ℕ). x - from) (length-map index (λ (w : ℕ). w + 2 ^ 60)) in
+    let n : length words ≡ length index - from = length-drop from (marked index) ∙ ap (λ (x : ℕ). x - from) (length-map index (λ (w : ℕ). secondWord w)) in
     let z : from + (i - from) ≡ i = omega arith in
-    let word : getD words (i - from) 0 ≡ getD index i 0 + 2 ^ 60 = getD-drop from (marked index) (i - from) 0 ∙ rw z (word-at index i l) in
-    rw (e, add-one k, take-suc-set row k (getD index i 0 + 2 ^ 60) room, so-far, take-suc words (i - from) 0 (omega arith), word)
-    (append-assoc (take at row₀) (take (i - from) words) ((getD index i 0 + 2 ^ 60) ∷ []))
+    let word : getD words (i - from) 0 ≡ secondWord (getD index i 0) = getD-drop from (marked index) (i - from) 0 ∙ rw z (word-at index i l) in
+    rw (e, add-one k, take-suc-set row k (secondWord (getD index i 0)) room, so-far, take-suc words (i - from) 0 (omega arith), word)
+    (append-assoc (take at row₀) (take (i - from) words) (secondWord (getD index i 0) ∷ []))
 
 pub all-copied : (index row₀ : List ℕ) (from to at : ℕ) (row : List ℕ) (i k : ℕ) → k ≡ at + (i - from) → Copying index row₀ from at row i k → i ≡ to
     → Copied index row₀ from to at row k
@@ -126,7 +127,7 @@ module _ (chains : List ℕ) (m : ℕ) (marks index : List ℕ) where
       abbrev now : StagedTo row opened from staged i ds cs
       now = so-far u ds cs x
 
-      here : (getD marks i 0 ≡ before ds (chain .labels)) × MarksAt ds marks (suc i) (cond (noneAmong ds (chain .labels)) 0 (chain .below)) later
+      here : (getD marks i 0 ≡ labelsBefore ds (chain .labels)) × MarksAt ds marks (suc i) (cond (noneAmong ds (chain .labels)) 0 (chain .below)) later
       unfolding MarksAt
       here = rw at-chain at (now .left)
 
@@ -214,9 +215,9 @@ module _ (chains : List ℕ) (m : ℕ) (marks index : List ℕ) where
             let w = words-of h u ds cs x in
             rw (w .from, w .records) (left-out h u ds cs x (known u ds cs x))
 
-        pub closed-staged : (row′ : List ℕ) (r : ℕ) → Copied index row from (fromIn (getD chains (2 * i + 1) 0)) staged row′ r
-            → (passed : ℕ) → passed ≡ belowIn (getD chains (2 * i + 1) 0)
-            → StagingTo row′ (opened + getD marks i 0) (fromIn (getD chains (2 * i + 1) 0) + recordsIn (getD chains (2 * i + 1) 0)) r (i + (1 + passed))
-        closed-staged row′ r copied passed e u ds cs x =
+        pub closed-staged : (row′ : List ℕ) (r to more passed : ℕ) → Copied index row from to staged row′ r
+            → to ≡ fromIn (getD chains (2 * i + 1) 0) → more ≡ recordsIn (getD chains (2 * i + 1) 0) → passed ≡ belowIn (getD chains (2 * i + 1) 0)
+            → StagingTo row′ (opened + getD marks i 0) (to + more) r (i + (1 + passed))
+        closed-staged row′ r to more passed copied et em ep u ds cs x =
             let w = words-of h u ds cs x in
-            rw (e, w .from, w .records, w .below) (closed-one h u ds cs x (known u ds cs x) row′ r (rw (w .from) at copied))
+            rw (et, em, ep, w .from, w .records, w .below) (closed-one h u ds cs x (known u ds cs x) row′ r (rw (et, w .from) at copied))

@@ -8,20 +8,21 @@ use lib.ListN.{length, drop, replicate, length-append, length-replicate, replica
 use lib.Seq.{take-append-le, take-length}
 use borrow.Author.Tests.{not-true}
 use borrow.Table.Steps.{cases}
+use Rattle.bytestring.proofs.Equal.{equal-true}
+use Rattle.bytestring.specs.Bytes.{equal}
+use Rattle.bytestring.proofs.Tools.{and-inv}
 use Rattle.fips180.specs.Hash.{sha256}
-use Rattle.page.proofs.Tools.{and-inv}
 use Rattle.tree.specs.Tree.{page, Gap, empty, under, Entries, end, entry, items, itemsUnder, itemsFrom}
 use Rattle.tree.specs.Record.{Spelt, records}
 use Rattle.tree.specs.Table.{SpeltTree, bytesOfPage, tableUnder}
-use Rattle.tree.specs.Judge.{equal, digestsRight, digestsRightUnder, digestsRightFrom}
-use Rattle.tree.proofs.Tests.{equal-true}
+use Rattle.tree.specs.Judge.{digestsRight, digestsRightUnder, digestsRightFrom}
 use Rattle.tree.proofs.Laws.{noLink}
 use Rattle.index.specs.Slot.{bare, filled, filledUnder, filledFrom}
 use Rattle.index.specs.Chain.{Chain, chains, chainsUnder, chainsFrom, labelsOn, chainIf}
 use Rattle.promises.specs.Pages.{known}
-use Rattle.opened.specs.Known.{isAmong}
-use Rattle.opened.specs.Rows.{Inside, Nested}
-use Rattle.opened.specs.Visits.{before, noneAmong, visited, openIn, kept, Ordered}
+use Rattle.known.specs.Known.{isAmong, labelsBefore}
+use Rattle.known.specs.Rows.{Inside, Nested}
+use Rattle.opened.specs.Visits.{noneAmong, visited, openIn, kept, Ordered}
 use Rattle.opened.specs.Passing.{flags, flagsUnder, flagsFrom, openPages, openPagesUnder, openPagesFrom}
 use Rattle.opened.proofs.OpenFlags.{flags-length, closed-pages}
 
@@ -135,8 +136,8 @@ module _ (digests : List (List ℕ)) where
   open-append (c ∷ xs) ys = omega (arith, open-append xs ys)
 
   -- ---- labels
-  pub before-none : (labels : List (List ℕ)) → noneAmong digests labels ≡ true → before digests labels ≡ length labels
-  unfolding before noneAmong
+  pub before-none : (labels : List (List ℕ)) → noneAmong digests labels ≡ true → labelsBefore digests labels ≡ length labels
+  unfolding labelsBefore noneAmong
   before-none [] h = refl
   before-none (d ∷ labels) h =
       cases (isAmong digests d)
@@ -149,8 +150,8 @@ module _ (digests : List (List ℕ)) where
   none-more (x ∷ labels) d = rw (none-more labels d) (sym (and-assoc (not (isAmong digests x)) (noneAmong digests labels) (not (isAmong digests d))))
 
   before-more : (labels : List (List ℕ)) (d : List ℕ)
-      → before digests (labels ++ (d ∷ [])) ≡ before digests labels + cond (noneAmong digests labels && not (isAmong digests d)) 1 0
-  unfolding before noneAmong
+      → labelsBefore digests (labels ++ (d ∷ [])) ≡ labelsBefore digests labels + cond (noneAmong digests labels && not (isAmong digests d)) 1 0
+  unfolding labelsBefore noneAmong
   before-more [] d = cases (isAmong digests d) (λ z. rw z) (λ z. rw z)
   before-more (x ∷ labels) d =
       cases (isAmong digests x)
@@ -200,7 +201,7 @@ module _ (digests : List (List ℕ)) where
 
   -- a chain with no label among the digests, or with one
   spans-open : {q : ℕ} {bs : List Bool} {k : ℕ} (c : Chain) (cs : List Chain) → c .below ≡ length cs → noneAmong digests (c .labels) ≡ true
-      → Spans digests (c .from) q cs bs k → Spans digests (c .from) q (c ∷ cs) bs (before digests (c .labels) + k)
+      → Spans digests (c .from) q cs bs k → Spans digests (c .from) q (c ∷ cs) bs (labelsBefore digests (c .labels) + k)
   unfolding visited Ordered kept openIn
   spans-open c cs b h s = record {
     nested = nested-top c cs b (s .nested);
@@ -210,7 +211,7 @@ module _ (digests : List (List ℕ)) where
   }
 
   spans-closed : (c : Chain) (cs : List Chain) → c .below ≡ length cs → noneAmong digests (c .labels) ≡ false → Nested cs
-      → Spans digests (c .from) (c .from + c .records) (c ∷ cs) (replicate (c .records) false) (before digests (c .labels))
+      → Spans digests (c .from) (c .from + c .records) (c ∷ cs) (replicate (c .records) false) (labelsBefore digests (c .labels))
   unfolding visited Ordered kept openIn
   spans-closed c cs b h n =
       let none : visited digests (c .below) cs ≡ [] = visited-past digests (c .below) cs (omega arith) in
@@ -257,12 +258,12 @@ module _ (first digests : List (List ℕ)) (same : (p : List ℕ) → known firs
   abbrev TreeSpans : ℕ → ℕ → List (List ℕ) → SpeltTree → Type 0
   TreeSpans from at labels t =
       Spans digests from (from + length (items t)) (chains from at labels t) (flags first (isOpen labels) t)
-      (cond (bare t) 0 (before digests labels) + cond (isOpen labels) (openBelow t) 0)
+      (cond (bare t) 0 (labelsBefore digests labels) + cond (isOpen labels) (openBelow t) 0)
 
   abbrev GapSpans : ℕ → ℕ → List (List ℕ) → Gap Spelt (List ℕ) → Type 0
   GapSpans from at labels g =
       Spans digests from (from + length (itemsUnder g)) (chainsUnder from at labels g) (flagsUnder first (isOpen labels) g)
-      (cond (noLink g) 0 (before digests labels) + cond (isOpen labels) (openPagesUnder first true g) 0)
+      (cond (noLink g) 0 (labelsBefore digests labels) + cond (isOpen labels) (openPagesUnder first true g) 0)
 
   abbrev RowSpans : ℕ → ℕ → Entries Spelt (List ℕ) → Type 0
   RowSpans from at es =
@@ -289,7 +290,7 @@ module _ (first digests : List (List ℕ)) (same : (p : List ℕ) → known firs
   below-page : (from at next : ℕ) (g : Gap Spelt (List ℕ)) (es : Entries Spelt (List ℕ)) → GapSpans from at [] g → RowSpans (from + length (itemsUnder g)) next es
       → Spans digests from (from + length (items (page g es))) (chainsUnder from at [] g ++ chainsFrom (from + length (itemsUnder g)) next es)
       (flags first true (page g es)) (openBelow (page g es))
-  unfolding items flags openBelow noneAmong before
+  unfolding items flags openBelow noneAmong labelsBefore
   below-page from at next g es s t =
       retell digests (omega (arith, length-append (itemsUnder g) (itemsFrom es))) refl
       (cases (noLink g) (λ z. rw z (omega arith)) (λ z. rw z (omega arith)))
@@ -327,7 +328,7 @@ module _ (first digests : List (List ℕ)) (same : (p : List ℕ) → known firs
 
   one-row : (from at : ℕ) (e : Spelt) (g : Gap Spelt (List ℕ)) (es : Entries Spelt (List ℕ)) → GapSpans (from + 1) at [] g
       → RowSpans (from + 1 + length (itemsUnder g)) (at + length (tableUnder g)) es → RowSpans from at (entry e g es)
-  unfolding items chains flags openPages noneAmong before
+  unfolding items chains flags openPages noneAmong labelsBefore
   one-row from at e g es s t =
       retell digests (omega (arith, length-append (itemsUnder g) (itemsFrom es))) refl
       (cases (noLink g) (λ z. rw z (omega arith)) (λ z. rw z (omega arith)))
@@ -360,7 +361,7 @@ module _ (first digests : List (List ℕ)) (same : (p : List ℕ) → known firs
   -- the whole tree, whose root is opened
   pub root-spans : (t : SpeltTree) → digestsRight t ≡ true → filled t ≡ true
       → (k : ℕ) × Spans digests 0 (length (records t)) (chains 0 0 [] t) (flags first true t) k × (1 + k ≡ openPages first true t)
-  unfolding noneAmong before
+  unfolding noneAmong labelsBefore
   root-spans t r f =
       let size : length (items t) ≡ length (records t) =
       sym (length-replicate (length (items t)) false) ∙ sym (ap length (falses t)) ∙ flags-length first false t in

@@ -1,60 +1,37 @@
 -- The passes over a whole register.
-use Prim.Native.Nat.{ℕ, zero, suc, _+_, _/_, _^_, _≤_, _<_}
+use Prim.Native.Nat.{ℕ, _+_, _≤_}
 use mathlib.Core.Path.{_≡_, sym, ap, _∙_}
 use mathlib.Core.Bool.{Bool, true, false, not}
-use mathlib.Core.List.{List, [], _∷_}
+use mathlib.Core.List.{List, []}
 use native.Mathlib.Omega.{arith}
-use lib.ListN.{length, take, getD}
+use lib.ListN.{length, take}
 use lib.Seq.{length-take-le, getD-take}
 use borrow.Author.Tests.{not-true, not-false}
-use Rattle.fips180.specs.Bytes.{Bytes}
+use Rattle.bytestring.specs.Bytes.{Bytes}
 use Rattle.fips180.specs.Hash.{sha256}
-use Rattle.key.specs.Key.{lawful}
-use Rattle.key.proofs.Laws.{layer-le}
-use Rattle.page.proofs.Tools.{and-inv}
 use Rattle.tree.specs.Record.{records}
 use Rattle.tree.specs.Table.{SpeltTree, bytesOfPage}
 use Rattle.tree.specs.Judge.{accepted, judge}
-use Rattle.tree.proofs.Tests.{all-lawful}
 use Rattle.tree.proofs.Accept.{accepted-table}
-use Rattle.index.specs.Slot.{Slot, slots, keyOf, lawfulSlots}
-use Rattle.index.specs.Walk.{blank, HoldsWords, Indexes}
 use Rattle.index.specs.Accepted.{AcceptedIndex, ChainRow}
 use Rattle.index.specs.Chain.{Chain, chains as pageChains}
-use Rattle.index.proofs.SlotLaws.{slots-length, slots-lawful}
+use Rattle.row.proofs.Rows.{word-small}
 use Rattle.promises.specs.Pages.{pagesOf, known as knownPage}
-use Rattle.opened.specs.Known.{isAmong, digestsOf, pagesIn}
-use Rattle.opened.specs.Passing.{flags, openPages, marked, Room, AllMarked, Staging, SomeStaging, KeptStaged, OpenedStaged}
+use Rattle.known.specs.Known.{isAmong}
+use Rattle.opened.specs.Passing.{digestsOf, pagesIn, flags, openPages, marked, Room, AllMarked, Staging, SomeStaging, KeptStaged, OpenedStaged}
 use Rattle.opened.specs.declared.pass.Opening.{Opening}
-use Rattle.opened.proofs.ChainRows.{accepted-filled}
+use Rattle.known.proofs.ChainRows.{accepted-filled}
 use Rattle.opened.proofs.OpenFlags.{closed-flags, closed-pages, opened-count}
 use Rattle.opened.proofs.Visits.{Spans, root-spans}
 use Rattle.opened.proofs.Digests.{known-labels}
 use Rattle.opened.proofs.Parts.{row-chains}
 
 -- ---- the words of the index
-lawful-at : (xs : List Slot) → lawfulSlots xs ≡ true → (i : ℕ) → i < length xs → lawful (keyOf (getD xs i blank)) ≡ true
-unfolding lawfulSlots
-lawful-at [] h i k = absurd (omega arith)
-lawful-at (x ∷ xs) h zero k = and-inv (lawful (keyOf x)) h .0
-lawful-at (x ∷ xs) h (suc i) k = lawful-at xs (and-inv (lawful (keyOf x)) h .1) i (omega arith)
-
-module _ (u index : List ℕ) (count : ℕ) (bytes : Bytes u) (w : AcceptedIndex u index count) where
-  -- they are below 2^60, since layers are small
-  word-small : (i : ℕ) → i < count → getD index i 0 < 2 ^ 60
-  unfolding HoldsWords
-  word-small i h =
-      let t : SpeltTree = w .tree in
-      let within : i < length (slots 0 0 t) = omega (arith, w .size, slots-length 0 0 t) in
-      let word = w .indexed i within (omega (arith, w .room)) in
-      let keys : lawfulSlots (slots 0 0 t) ≡ true = slots-lawful 0 0 t ∙ all-lawful (records t) (accepted-table u bytes t (w .judged) .fit .keys) in
-      let layer : getD index i 0 / 2 ^ 48 < 256 = omega (arith, word .layer (lawful-at (slots 0 0 t) keys i within), layer-le (keyOf (getD (slots 0 0 t) i blank))) in
-      omega (arith, layer)
-
-  pub index-room : (row : List ℕ) → count ≤ length row → Room (take count index) row
-  index-room row h =
-      let n = length-take-le count index (w .room) in
-      record { fits = omega arith; small = λ i k. rw (getD-take count index i 0 (omega arith)) (word-small i (omega arith)) }
+pub index-room : (u index : List ℕ) (count : ℕ) → Bytes u → AcceptedIndex u index count → (row : List ℕ) → count ≤ length row → Room (take count index) row
+index-room u index count bytes w row h =
+    let n = length-take-le count index (w .room) in
+    let small = word-small u index (w .tree) count bytes (w .judged) (w .indexed) (w .size) (w .room) in
+    record { fits = omega arith; small = λ i k. rw (getD-take count index i 0 (omega arith)) (small i (omega arith)) }
 
 -- ---- two registers that are accepted
 module _ (s known : List ℕ) (n : ℕ) (u chains index : List ℕ) (m count : ℕ) (bytes : Bytes s) (others : Bytes u) (w : ChainRow s known n) (x : ChainRow u chains m)

@@ -1,4 +1,2 @@
-pub mod Rows
-pub mod Known
 pub mod Visits
 pub mod Passing

@@ -1,20 +1,31 @@
 -- What the passes over the second register's chains say.
-use Prim.Native.Nat.{ℕ, _+_, _-_, _^_, _≤_, _<_}
+use Prim.Native.Nat.{ℕ, _+_, _-_, _≤_, _<_}
 use mathlib.Core.Path.{_≡_}
 use mathlib.Core.Bool.{Bool, true, false, cond, not, _&&_}
 use mathlib.Core.List.{List, [], _∷_, _++_, map}
 use lib.ListN.{length, take, drop, getD}
 use Rattle.fips180.specs.Hash.{sha256}
+use Rattle.word.specs.Word.{fromSecond, secondWord}
 use Rattle.tree.specs.Tree.{page, Gap, empty, under, Entries, end, entry}
 use Rattle.tree.specs.Record.{Spelt}
 use Rattle.tree.specs.Table.{SpeltTree, bytesOfPage}
+use Rattle.tree.specs.Judge.{Verdict, refused, accepted}
 use Rattle.index.specs.Chain.{Chain, chains}
-use Rattle.promises.specs.Pages.{known, openedPages}
-use Rattle.opened.specs.Rows.{Chained, labelsOf, LabelsStand}
-use Rattle.opened.specs.Known.{isAmong, Linked, digestsIn, digestsOf}
-use Rattle.opened.specs.Visits.{before, visited, openIn, kept, Ordered, MarksAt}
+use Rattle.promises.specs.Pages.{pagesOf, known, openedPages}
+use Rattle.known.specs.Rows.{Chained, labelsOf}
+use Rattle.known.specs.Known.{isAmong, Linked, digestsIn}
+use Rattle.opened.specs.Visits.{visited, openIn, kept, Ordered, MarksAt}
 use Rattle.opened.specs.declared.pass.Part.{Part}
 use Rattle.opened.specs.declared.pass.Opening.{Opening}
+
+-- The digests of a tree's pages.
+abbrev pub digestsOf : SpeltTree → List (List ℕ)
+digestsOf t = sha256 (bytesOfPage t) ∷ labelsOf (chains 0 0 [] t)
+
+-- The pages of a byte string that is accepted.
+unfoldable pub pagesIn : Verdict → List (List ℕ)
+pagesIn (refused r) = []
+pagesIn (accepted t) = pagesOf t
 
 -- Whether each record stands in an opened page, in key order; `isOpen` says whether the first page is opened.
 unfoldable mutual
@@ -49,22 +60,16 @@ pick (b ∷ bs) [] = []
 pick (true ∷ bs) (a ∷ l) = a ∷ pick bs l
 pick (false ∷ bs) (a ∷ l) = pick bs l
 
--- The words of the second register's records: 2^60 is added to those of its index.
+-- The words of an index as words of the second register.
 abbrev pub marked : List ℕ → List ℕ
-marked words = map (λ (w : ℕ). w + 2 ^ 60) words
+marked words = map (λ (w : ℕ). secondWord w) words
 
--- The words of the index are below 2^60, and the row has room for all of them.
+-- The words of the index are the first register's, and the row has room for all of them.
 pub record Room (index row : List ℕ) : Type 0 where
   pub fits : length index ≤ length row
-  pub small : (i : ℕ) → i < length index → getD index i 0 < 2 ^ 60
+  pub small : (i : ℕ) → i < length index → getD index i 0 < fromSecond
 
 -- ---- the passes
--- How many labels of a chain stand before one that is known, among the first `most`; the table has the digests.
-abbrev pub OpenLabels : List ℕ → List ℕ → List ℕ → List ℕ → List ℕ → ℕ → ℕ → ℕ → Type 0
-OpenLabels s heads words root u w most r =
-    (labels : List (List ℕ)) → LabelsStand u w labels → (count : ℕ) → Linked s heads words count
-    → r ≡ before (root ∷ digestsIn s (take count words)) (take most labels)
-
 -- The marks are those of visited chains, for some digests.
 pub record Marked (u row : List ℕ) (m : ℕ) (marks : List ℕ) : Type 0 where
   pub digests : List (List ℕ)
@@ -119,7 +124,8 @@ pub record KeptStaged (index : List ℕ) (digests : List (List ℕ)) (cs : List 
   pub staged : take (r .staged) row′ ≡ pick (kept digests 0 (length index) (visited digests 0 cs)) (marked index)
 
 -- ---- the whole register
--- The first `count` words are those of the records of v, in key order. The row begins with those of the records in opened pages, 2^60 added.
+-- The first `count` words are those of the records of v, in key order. The row begins with those of the records in opened pages, as words of
+-- the second register.
 pub record OpenedStaged (first : List (List ℕ)) (v : SpeltTree) (index : List ℕ) (count : ℕ) (r : Opening) (row′ : List ℕ) : Type 0 where
   pub opened : r .opened ≡ length (openedPages first v)
   pub fits : r .staged ≤ count

@@ -5,14 +5,9 @@ use mathlib.Core.Bool.{Bool, true, false, cond, not, _&&_}
 use mathlib.Core.List.{List, [], _∷_, _++_}
 use lib.ListN.{getD, replicate}
 use Rattle.index.specs.Chain.{Chain}
-use Rattle.opened.specs.Known.{isAmong}
+use Rattle.known.specs.Known.{isAmong, labelsBefore}
 
 -- ---- labels
--- How many labels stand before the first that is among these digests.
-unfoldable pub before : List (List ℕ) → List (List ℕ) → ℕ
-before digests [] = 0
-before digests (d ∷ labels) = cond (isAmong digests d) 0 (suc (before digests labels))
-
 -- No label is among these digests.
 unfoldable pub noneAmong : List (List ℕ) → List (List ℕ) → Bool
 noneAmong digests [] = true
@@ -28,7 +23,7 @@ visited digests zero (c ∷ cs) = c ∷ visited digests (cond (noneAmong digests
 -- The pages of visited chains that are opened; the root, which has no label, is not counted.
 unfoldable pub openIn : List (List ℕ) → List Chain → ℕ
 openIn digests [] = 0
-openIn digests (c ∷ cs) = before digests (c .labels) + openIn digests cs
+openIn digests (c ∷ cs) = labelsBefore digests (c .labels) + openIn digests cs
 
 -- Whether each record from the p-th to the e-th is kept: those under a visited chain with a label among the digests are left out.
 unfoldable pub kept : List (List ℕ) → ℕ → ℕ → List Chain → List Bool
@@ -49,5 +44,5 @@ unfoldable pub MarksAt : List (List ℕ) → List ℕ → ℕ → ℕ → List C
 MarksAt digests marks i k [] = Unit {0}
 MarksAt digests marks i (suc k) (c ∷ cs) = MarksAt digests marks (suc i) k cs
 MarksAt digests marks i zero (c ∷ cs) =
-    (getD marks i 0 ≡ before digests (c .labels))
+    (getD marks i 0 ≡ labelsBefore digests (c .labels))
     × MarksAt digests marks (suc i) (cond (noneAmong digests (c .labels)) 0 (c .below)) cs

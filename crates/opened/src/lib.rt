@@ -1,3 +1,2 @@
-// Known and opened pages. The functions are for the crates above and no public calls.
-mod known; // the digests of the first register's pages
-pub mod pass; // the pass over the second register's pages
+// Opened pages: those of a second register that the first does not know. The functions are for the crates above and no public calls.
+pub mod pass; // the passes over the second register's pages

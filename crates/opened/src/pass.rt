@@ -1,53 +1,34 @@
 // The passes over the second register's chains: they mark the known pages, count the opened ones and stage the words of their records.
-use crate::known::fill;
-use crate::known::is_known;
-use crate::known::label_count;
-use crate::known::label_place;
-use crate::known::root_digest;
+use known::fill;
+use known::is_known;
+use known::label_count;
+use known::open_labels;
+use known::root_digest;
+use word::below_in;
+use word::from_in;
+use word::records_in;
+use word::second_word;
 ghost use mathlib.Core.Path.{_≡_};
 ghost use mathlib.Core.Bool.{cond};
 ghost use mathlib.Core.List.{List};
 ghost use Prim.Native.Nat.{ℕ, _+_, _*_, _^_, _≤_, _<_};
 ghost use lib.ListN.{length, getD};
+ghost use Rattle.value.specs.Value.{digestLength};
 ghost use Rattle.tree.specs.Table.{SpeltTree};
 ghost use Rattle.tree.specs.Judge.{accepted, judge};
-ghost use Rattle.index.specs.Word.{belowIn};
+ghost use Rattle.word.specs.Word.{belowIn};
 ghost use Rattle.index.specs.Chain.{Chain};
 ghost use Rattle.index.specs.Accepted.{AcceptedIndex, ChainRow};
-ghost use Rattle.opened.specs.Rows.{SomeChains, labelCount, SomeLabels};
-ghost use Rattle.opened.specs.Known.{Tabled, pagesIn};
-ghost use Rattle.opened.specs.Passing.{Room, OpenLabels, Marked, Lowered, TookPart, AllMarked, Copied, Staging, SomeStaging, KeptStaged, OpenedStaged};
-
-// How many labels of a chain of u, by its first word, stand before one that is known, among the first `most`.
-fn open_labels(
-    s: &[u8],
-    heads: &[u32],
-    words: &[u64],
-    root: &[u8],
-    u: &[u8],
-    word: u64,
-    most: usize,
-) -> usize
-    requires { ⌜ Tabled (now s) (now heads) (now words) × (length (now root) ≡ 32) × SomeLabels (now u) word × (most ≤ labelCount word) ⌝ }
-    ensures { λ r. ⌜ (r ≤ most) × OpenLabels (now (s .entry)) (now (heads .entry)) (now (words .entry)) (now (root .entry)) (now (u .entry)) word most r ⌝ }
-{
-    let mut k = 0;
-    while k < most {
-        let at = label_place(word, k);
-        if is_known(s, heads, words, root, &u[at..at + 32]) {
-            return k;
-        }
-        k += 1;
-    }
-    k
-}
+ghost use Rattle.known.specs.Rows.{SomeChains, labelCount};
+ghost use Rattle.known.specs.Known.{Tabled};
+ghost use Rattle.opened.specs.Passing.{pagesIn, Room, Marked, Lowered, TookPart, AllMarked, Copied, Staging, SomeStaging, KeptStaged, OpenedStaged};
 
 // How many chains are passed over, by the second word of a chain: those below it where it has a known page.
 fn passed_over(word: u64, closed: bool) -> usize
     ensures { λ r. ⌜ (r ≡ cond closed (belowIn word) 0) × (r < 2 ^ 14) ⌝ }
 {
     if closed {
-        return (word / 0x4_0000_0000_0000) as usize;
+        return below_in(word);
     }
     0
 }
@@ -75,7 +56,7 @@ fn lower_marks(
     m: usize,
     marks: &mut [u8],
 )
-    requires { ⌜ Tabled (now s) (now heads) (now words) × (length (now root) ≡ 32) × Marked (now u) (now chains) m (now marks) × (m ≤ length (now marks)) ⌝ }
+    requires { ⌜ Tabled (now s) (now heads) (now words) × (length (now root) ≡ digestLength) × Marked (now u) (now chains) m (now marks) × (m ≤ length (now marks)) ⌝ }
     ensures { λ _. ⌜ Lowered (now (s .entry)) (now (heads .entry)) (now (words .entry)) (now (root .entry)) (now (u .entry)) (now (chains .entry)) m (now (marks .entry)) (now (marks .exit)) ⌝ }
 {
     let mut i = 0;
@@ -108,7 +89,7 @@ fn take_part(
     top: &[u8],
     marks: &mut [u8],
 ) -> Part
-    requires { ⌜ SomeChains (now s) (now known) n × (start ≤ n) × (length (now heads) ≡ 4096) × (length (now words) ≡ 4096) × (length (now s) < 2 ^ 32) × (length (now root) ≡ 32) × Marked (now u) (now chains) m (now marks) × (m ≤ length (now marks)) × (length (now top) ≡ 32) ⌝ }
+    requires { ⌜ SomeChains (now s) (now known) n × (start ≤ n) × (length (now heads) ≡ 4096) × (length (now words) ≡ 4096) × (length (now s) < 2 ^ 32) × (length (now root) ≡ digestLength) × Marked (now u) (now chains) m (now marks) × (m ≤ length (now marks)) × (length (now top) ≡ digestLength) ⌝ }
     ensures { λ r. ⌜ TookPart (now (s .entry)) (now (known .entry)) n start (now (root .entry)) (now (u .entry)) (now (chains .entry)) m (now (top .entry)) (now (marks .entry)) (now (marks .exit)) r ⌝ }
 {
     let next = fill(s, known, n, start, heads, words);
@@ -185,7 +166,7 @@ pub struct Opening {
     pub opened: usize,
 }
 
-// The words from one place of the index to another go into the row. Words of the second register have 2^60 added. The place after them.
+// The words from one place of the index to another go into the row, as words of the second register. The place after them.
 fn copy_words(index: &[u64], from: usize, to: usize, row: &mut [u64], at: usize) -> usize
     requires { ⌜ Room (now index) (now row) × (from ≤ to) × (to ≤ length (now index)) × (at ≤ from) ⌝ }
     ensures { λ r. ⌜ Copied (now (index .entry)) (now (row .entry)) from to at (now (row .exit)) r ⌝ }
@@ -193,7 +174,7 @@ fn copy_words(index: &[u64], from: usize, to: usize, row: &mut [u64], at: usize)
     let mut i = from;
     let mut k = at;
     while i < to {
-        row[k] = index[i] + 0x1000_0000_0000_0000;
+        row[k] = second_word(index[i]);
         i += 1;
         k += 1;
     }
@@ -218,10 +199,10 @@ fn stage_kept(chains: &[u64], m: usize, marks: &[u8], index: &[u64], row: &mut [
             i += 1;
             continue;
         }
-        let to = (word / 0x100_0000 % 0x2000) as usize;
+        let to = from_in(word);
         staged = copy_words(index, from, to, row, staged);
-        from = to + (word / 0x20_0000_0000 % 0x2000) as usize;
-        i += 1 + passed_over(word, true);
+        from = to + records_in(word);
+        i += 1 + below_in(word);
     }
     staged = copy_words(index, from, index.len(), row, staged);
     Opening { staged, opened }

@@ -8,11 +8,12 @@ use lib.ListN.{length}
 use lib.Dec.{ltb}
 use borrow.Author.Tests.{ltb-true}
 use borrow.Table.Steps.{cases}
-use Rattle.fips180.specs.Bytes.{Bytes}
+use Rattle.bytestring.proofs.Tools.{All, bytes-append}
+use Rattle.bytestring.specs.Bytes.{Bytes}
 use Rattle.page.specs.Reading.{concat}
 use Rattle.page.specs.Number.{plainNumber, byteString, array, numberBytes}
 use Rattle.page.specs.Page.{linkHead, linkBytes, gapBytes, RawEntry, entryBytes, RawPage, pageBytes}
-use Rattle.page.proofs.Tools.{All, bytes-append, bytes-concat}
+use Rattle.page.proofs.Tools.{bytes-concat}
 use Rattle.page.proofs.Pages.{beforeEntries, beforeLeft, beforeRemainder, beforeShares, beforeGap, beforeValue, GoodEntry, GoodPage}
 
 abbrev pub ByteGap : Option (List ℕ) → Type 0

@@ -3,11 +3,4 @@ pub mod Readers
 pub mod Numbers
 pub mod Pages
 pub mod AllBytes
-pub mod Places
-pub mod PagePlaces
-pub mod Determined
-pub mod Located
-pub mod Lending
-pub mod Sizes
-pub mod Writers
 pub mod Examples

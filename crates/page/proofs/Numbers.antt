@@ -6,10 +6,10 @@ use native.Mathlib.Omega.{arith}
 use lib.Dec.{eqb, ltb}
 use borrow.Author.Tests.{ltb-true, ltb-false, eqb-true, eqb-false, lt-ltb, le-ltb, eq-eqb, ne-eqb}
 use borrow.Table.Steps.{cases}
-use Rattle.fips180.specs.Bytes.{Bytes}
+use Rattle.bytestring.proofs.Tools.{cond-inv}
+use Rattle.bytestring.specs.Bytes.{Bytes}
 use Rattle.page.specs.Reading.{read, departs}
 use Rattle.page.specs.Number.{numberBytes, oneByte, twoBytes, number}
-use Rattle.page.proofs.Tools.{cond-inv}
 use Rattle.page.proofs.Readers.{endsEarly≢read, departs≢read, read-sub, Spells}
 
 module _ (kind : ℕ) where

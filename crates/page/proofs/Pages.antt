@@ -7,11 +7,11 @@ use native.Mathlib.Omega.{arith}
 use lib.ListN.{length}
 use lib.Dec.{eqb}
 use borrow.Author.Tests.{eqb-true}
-use Rattle.fips180.specs.Bytes.{Bytes}
+use Rattle.bytestring.proofs.Tools.{cond-inv, All}
+use Rattle.bytestring.specs.Bytes.{Bytes}
 use Rattle.page.specs.Reading.{read, andThen, exactly}
 use Rattle.page.specs.Number.{plainNumber, byteString, array}
 use Rattle.page.specs.Page.{linkHead, linkBytes, link, null, gapBytes, gap, RawEntry, entryBytes, entry, RawPage, pageBytes, page}
-use Rattle.page.proofs.Tools.{cond-inv, All}
 use Rattle.page.proofs.Readers.{endsEarly≢read, read-sub, Spells, step, anyBytes-reads, times-reads, exactly-spells, anyBytes-spells, times-spells}
 use Rattle.page.proofs.Numbers.{number-reads, number-spells}
 

@@ -5,9 +5,9 @@ use mathlib.Core.List.{List, [], _∷_, _++_, append-assoc}
 use lib.ListN.{length}
 use lib.Dec.{eqb}
 use borrow.Author.Tests.{eqb-true, eq-eqb}
-use Rattle.fips180.specs.Bytes.{Bytes}
+use Rattle.bytestring.proofs.Tools.{cond-inv, All, bytes-right}
+use Rattle.bytestring.specs.Bytes.{Bytes}
 use Rattle.page.specs.Reading.{Read, read, endsEarly, departs, Reader, andThen, exactly, anyBytes, times, concat}
-use Rattle.page.proofs.Tools.{cond-inv, All, bytes-right}
 
 -- ---- results
 abbrev IsRead : {A : Type 0} → Read A → Type 0

@@ -1,10 +1,11 @@
 -- One page's bytes: links, values, entries and the page, as written and as read.
 use Prim.Native.Nat.{ℕ}
-use mathlib.Core.Bool.{Bool, cond}
+use mathlib.Core.Bool.{cond}
 use mathlib.Core.Option.{Option, none, some}
 use mathlib.Core.List.{List, [], _∷_, _++_}
 use lib.ListN.{length}
 use lib.Dec.{eqb}
+use Rattle.value.specs.Value.{digestLength}
 use Rattle.page.specs.Reading.{read, endsEarly, Reader, andThen, _>>=_, _>>_, pure, exactly, anyBytes, times, concat}
 use Rattle.page.specs.Number.{plainNumber, byteString, array, numberBytes, number}
 
@@ -18,7 +19,7 @@ linkBytes digest = linkHead ++ digest
 unfoldable pub link : Reader (List ℕ)
 link = do
   exactly linkHead
-  anyBytes 32
+  anyBytes digestLength
 
 -- A gap: the link of the page in it, or null where it is empty.
 abbrev pub null : ℕ
@@ -32,10 +33,7 @@ unfoldable pub gap : Reader (Option (List ℕ))
 gap [] = endsEarly
 gap (b ∷ s) = cond (eqb b null) (read none s) (andThen (link (b ∷ s)) (λ digest t. read (some digest) t))
 
--- A value: the 32 digest bytes of a record block, written as a link.
-unfoldable pub isValue : List ℕ → Bool
-isValue v = eqb (length v) 32
-
+-- A value is written as a link.
 abbrev pub valueBytes : List ℕ → List ℕ
 valueBytes v = linkBytes v
 

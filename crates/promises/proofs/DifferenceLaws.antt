@@ -9,18 +9,21 @@ use mathlib.Core.List.{List, [], _∷_, _++_, head-eq-of-cons-eq, tail-eq-of-con
 use native.Mathlib.Omega.{arith}
 use lib.ListN.{length, length-append, length-replicate}
 use borrow.Table.Steps.{cases}
+use Rattle.limits.specs.Limits.{deepest}
+use Rattle.bytestring.proofs.Equal.{equal-true, equal-refl}
+use Rattle.bytestring.specs.Bytes.{equal}
+use Rattle.bytestring.proofs.Tools.{and-inv, All, all-split}
 use Rattle.fips180.specs.Hash.{sha256}
 use Rattle.key.proofs.Laws.{less-connected}
 use Rattle.page.specs.Page.{RawEntry, RawPage}
-use Rattle.page.proofs.Tools.{and-inv, All, all-split}
 use Rattle.page.proofs.Pages.{GoodPage}
 use Rattle.tree.specs.Tree.{page, Gap, empty, under, Entries, end, entry, items, itemsUnder, itemsFrom}
 use Rattle.tree.specs.Record.{Record, Spelt, recordOf, keyed, keyedUnder, keyedFrom, records}
-use Rattle.tree.specs.Table.{SpeltTree, linkOf, rawEntries, rawPage, bytesOfPage, deepest}
-use Rattle.tree.specs.Judge.{equal, digestsRight, digestsRightUnder, digestsRightFrom}
-use Rattle.tree.proofs.Laws.{equal-true, equal-refl, AllUnder, AllFrom, Good, page-injective, Accepted}
+use Rattle.tree.specs.Table.{SpeltTree, linkOf, rawEntries, rawPage, bytesOfPage}
+use Rattle.tree.specs.Judge.{digestsRight, digestsRightUnder, digestsRightFrom}
+use Rattle.tree.proofs.Laws.{AllUnder, AllFrom, Good, page-injective, Accepted}
 use Rattle.promises.specs.Map.{find, onlyInSecond}
-use Rattle.promises.specs.Pages.{pagesOf, pagesUnder, pagesFrom, known}
+use Rattle.promises.specs.Pages.{pagesOf, pagesOfGap, pagesOfEntries, known}
 use Rattle.promises.specs.Difference.{isValueThere, holds, lacking, Difference, stopped, found, differenceRecords, differenceOutput}
 use Rattle.promises.specs.Promises.{Among, NoSharedDigest}
 use Rattle.promises.proofs.MapLaws.{Above, above-before, Sorted, rising-sorted, find-nil, find-before, find-here, find-later, find-above, Proper}
@@ -165,21 +168,21 @@ module _
             let r = all-split P (itemsUnder (keyedUnder g)) (itemsFrom (keyedFrom [] es)) h in
             or-cases (equal (sha256 (bytesOfPage p)) (sha256 (bytesOfPage (page g es)))) _ k
             (λ e. rw (same-tree p (page g es) a b (equal-true _ _ e)) h)
-            (λ e. known-cases (pagesUnder g) (pagesFrom es) (bytesOfPage p) e
+            (λ e. known-cases (pagesOfGap g) (pagesOfEntries es) (bytesOfPage p) e
             (λ u. known-records-under g (b .1) u (r .0))
             (λ u. known-records-from [] es (b .2) u (r .1)))
 
-        known-records-under : (g : Gap Spelt (List ℕ)) → LinkedUnder Fine g → known (pagesUnder g) (bytesOfPage p) ≡ true
+        known-records-under : (g : Gap Spelt (List ℕ)) → LinkedUnder Fine g → known (pagesOfGap g) (bytesOfPage p) ≡ true
             → All P (itemsUnder (keyedUnder g)) → All P (records p)
         known-records-under empty b k h = absurd (false≢true k)
         known-records-under (under digest q) b k h = known-records q (b .1) k h
 
-        known-records-from : (before : List ℕ) (es : Entries Spelt (List ℕ)) → LinkedFrom Fine es → known (pagesFrom es) (bytesOfPage p) ≡ true
+        known-records-from : (before : List ℕ) (es : Entries Spelt (List ℕ)) → LinkedFrom Fine es → known (pagesOfEntries es) (bytesOfPage p) ≡ true
             → All P (itemsFrom (keyedFrom before es)) → All P (records p)
         known-records-from before end b k h = absurd (false≢true k)
         known-records-from before (entry e g es) b k h =
             let r = all-split P (itemsUnder (keyedUnder g)) (itemsFrom (keyedFrom (recordOf before e .key) es)) (h .1) in
-            known-cases (pagesUnder g) (pagesFrom es) (bytesOfPage p) k
+            known-cases (pagesOfGap g) (pagesOfEntries es) (bytesOfPage p) k
             (λ u. known-records-under g (b .0) u (r .0))
             (λ u. known-records-from (recordOf before e .key) es (b .1) u (r .1))
 
@@ -233,24 +236,24 @@ module _ (all : List (List ℕ)) where
     linked (page g es) (suc n) a d w =
         let k = and-inv (digestsRightUnder g) d in (
           (a .0, w (bytesOfPage (page g es)) (inl refl)),
-          linked-under g n (a .1) (k .0) (λ p i. w p (inr (among-left (pagesUnder g) (pagesFrom es) p i))),
-          linked-from es n (a .2) (k .1) (λ p i. w p (inr (among-right (pagesUnder g) (pagesFrom es) p i))),
+          linked-under g n (a .1) (k .0) (λ p i. w p (inr (among-left (pagesOfGap g) (pagesOfEntries es) p i))),
+          linked-from es n (a .2) (k .1) (λ p i. w p (inr (among-right (pagesOfGap g) (pagesOfEntries es) p i))),
         )
 
-    linked-under : (g : Gap Spelt (List ℕ)) (n : ℕ) → AllUnder (Good n) g → digestsRightUnder g ≡ true → Within (pagesUnder g) all
+    linked-under : (g : Gap Spelt (List ℕ)) (n : ℕ) → AllUnder (Good n) g → digestsRightUnder g ≡ true → Within (pagesOfGap g) all
         → LinkedUnder Fine g
     linked-under empty n a d w = tt
     linked-under (under digest p) n a d w =
         let k = and-inv (equal digest (sha256 (bytesOfPage p))) d in
         (equal-true digest (sha256 (bytesOfPage p)) (k .0), linked p n a (k .1) w)
 
-    linked-from : (es : Entries Spelt (List ℕ)) (n : ℕ) → AllFrom (Good n) es → digestsRightFrom es ≡ true → Within (pagesFrom es) all
+    linked-from : (es : Entries Spelt (List ℕ)) (n : ℕ) → AllFrom (Good n) es → digestsRightFrom es ≡ true → Within (pagesOfEntries es) all
         → LinkedFrom Fine es
     linked-from end n a d w = tt
     linked-from (entry e g es) n a d w =
         let k = and-inv (digestsRightUnder g) d in (
-          linked-under g n (a .0) (k .0) (λ p i. w p (among-left (pagesUnder g) (pagesFrom es) p i)),
-          linked-from es n (a .1) (k .1) (λ p i. w p (among-right (pagesUnder g) (pagesFrom es) p i)),
+          linked-under g n (a .0) (k .0) (λ p i. w p (among-left (pagesOfGap g) (pagesOfEntries es) p i)),
+          linked-from es n (a .1) (k .1) (λ p i. w p (among-right (pagesOfGap g) (pagesOfEntries es) p i)),
         )
 
 -- the records of a difference: what the first lacks of those in opened pages

@@ -9,15 +9,16 @@ use lib.Seq.{take-all, length-take-le}
 use lib.Dec.{ltb, leb}
 use borrow.Author.Tests.{eqb-true, leb-true, leb-false, lt-leb}
 use borrow.Table.Steps.{cases}
+use Rattle.limits.specs.Limits.{deepest}
+use Rattle.bytestring.proofs.Tools.{All}
+use Rattle.bytestring.specs.Bytes.{ByteString}
 use Rattle.answer.specs.Answer.{numberOf}
 use Rattle.answer.specs.declared.Refusal.{Refusal}
 use Rattle.answer.specs.declared.Refusal.the-variants.{TooLong}
-use Rattle.fips180.specs.Bytes.{ByteString}
 use Rattle.key.proofs.Laws.{lawful-length}
-use Rattle.page.specs.Page.{isValue}
-use Rattle.page.proofs.Tools.{All}
+use Rattle.value.specs.Value.{isValue}
 use Rattle.tree.specs.Record.{Record, records}
-use Rattle.tree.specs.Table.{SpeltTree, table, tableOf, deepest}
+use Rattle.tree.specs.Table.{SpeltTree, table, tableOf}
 use Rattle.tree.specs.Judge.{Verdict, refused, accepted, judge}
 use Rattle.tree.proofs.Sizes.{table-length}
 use Rattle.tree.proofs.Laws.{LawfulKey, RightValue, accepted-table}

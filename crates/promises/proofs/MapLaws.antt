@@ -7,10 +7,10 @@ use mathlib.Core.List.{List, [], _∷_}
 use native.Mathlib.Omega.{arith}
 use lib.ListN.{length, getD}
 use borrow.Table.Steps.{cases}
+use Rattle.bytestring.proofs.Tools.{and-inv, and-both, All}
 use Rattle.key.specs.Key.{less}
 use Rattle.key.proofs.Laws.{less-irreflexive, less-transitive, less-connected, is-false, less-asymmetric, less-same}
-use Rattle.page.specs.Page.{isValue}
-use Rattle.page.proofs.Tools.{and-inv, and-both, All}
+use Rattle.value.specs.Value.{isValue}
 use Rattle.tree.specs.Record.{Record}
 use Rattle.tree.specs.Judge.{rising, fits}
 use Rattle.tree.proofs.Laws.{LawfulKey, RightValue, fitting}

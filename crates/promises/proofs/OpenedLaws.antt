@@ -7,15 +7,15 @@ use mathlib.Core.List.{List, [], _∷_, _++_, append-assoc, append-nil, Sublist�
 use native.Mathlib.Omega.{arith}
 use lib.ListN.{length, length-append}
 use borrow.Table.Steps.{cases}
+use Rattle.bytestring.proofs.Equal.{equal-refl, equal-cases}
+use Rattle.bytestring.specs.Bytes.{equal}
+use Rattle.bytestring.proofs.Tools.{All, all-split, all-weaken}
 use Rattle.key.proofs.Laws.{less-connected}
-use Rattle.page.proofs.Tools.{All, all-split, all-weaken}
 use Rattle.tree.specs.Tree.{page, Gap, empty, under, Entries, end, entry, items, itemsUnder, itemsFrom, pages, pagesUnder as countUnder, pagesFrom as countFrom}
 use Rattle.tree.specs.Record.{Record, Spelt, recordOf, keyed, keyedUnder, keyedFrom, records}
 use Rattle.tree.specs.Table.{SpeltTree, bytesOfPage}
-use Rattle.tree.specs.Judge.{equal}
-use Rattle.tree.proofs.Laws.{equal-refl, equal-cases}
 use Rattle.promises.specs.Map.{find}
-use Rattle.promises.specs.Pages.{pagesOf, known, Located, located, locatedUnder, locatedFrom, noneKnown, isOpened, openedAmong, openedPages, linkedUnder, linkedFrom, linkedPages, inEntries, inPage, putAll, inPages}
+use Rattle.promises.specs.Pages.{pagesOf, known, PageInTree, located, locatedUnder, locatedFrom, noneKnown, isOpened, openedAmong, openedPages, linkedUnder, linkedFrom, linkedPages, inEntries, inPage, putAll, inPages}
 use Rattle.promises.specs.Promises.{openedOfEach, OpenedByDescent, AllOpened, NoneOpened}
 use Rattle.promises.proofs.MapLaws.{Before, before-other, Above, Sorted, find-nil, find-here, find-before, find-later, above-before, sorted-ext, sorted-put, find-put-same, find-put-other}
 use Rattle.promises.proofs.Parts.{all-part, sorted-part}
@@ -36,7 +36,7 @@ unfoldable mutual
   descentFrom first (entry e g es) = descentUnder first g ++ descentFrom first es
 
 module _ (first : List (List ℕ)) where
-  among-append : (l m : List Located) → openedAmong first (l ++ m) ≡ openedAmong first l ++ openedAmong first m
+  among-append : (l m : List PageInTree) → openedAmong first (l ++ m) ≡ openedAmong first l ++ openedAmong first m
   unfolding openedAmong
   among-append [] m = refl
   among-append (p ∷ l) m =

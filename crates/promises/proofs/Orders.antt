@@ -10,19 +10,19 @@ use lib.ListN.{length, take, drop}
 use lib.Dec.{eqb, leb}
 use borrow.Author.Tests.{eqb-false, leb-true, leb-false, lt-leb, le-leb, ne-eqb}
 use borrow.Table.Steps.{cases}
+use Rattle.limits.specs.Limits.{longest, most}
+use Rattle.bytestring.proofs.Tools.{and-both}
+use Rattle.bytestring.specs.Bytes.{ByteString, equal}
 use Rattle.answer.specs.Answer.{numberOf, doneWith, said, saidOfDifference}
 use Rattle.answer.specs.declared.Refusal.{Refusal}
 use Rattle.answer.specs.declared.Refusal.the-variants.{TooManyRecords, UnlawfulKey, ValueLength, KeyAbsent, NoRoom}
-use Rattle.fips180.specs.Bytes.{ByteString}
-use Rattle.sha256.specs.Digest.{longest}
 use Rattle.key.specs.Key.{lawful, less}
 use Rattle.key.proofs.Lawful.{slash-none}
 use Rattle.key.proofs.SlashLaws.{slash-stands}
-use Rattle.page.specs.Page.{isValue}
-use Rattle.page.proofs.Tools.{and-both}
+use Rattle.value.specs.Value.{isValue}
 use Rattle.tree.specs.Record.{Record, records, spelt}
 use Rattle.tree.specs.Table.{SpeltTree, treeOfSet, tableOf}
-use Rattle.tree.specs.Judge.{equal, Test, due, most, fits, Verdict, refused, accepted, judge}
+use Rattle.tree.specs.Judge.{Test, due, fits, Verdict, refused, accepted, judge}
 use Rattle.tree.specs.Place.{places}
 use Rattle.tree.proofs.Laws.{LawfulKey, RightValue, fitting, fitting-fits, records-of-set, table-accepted, accepted-table, Stand, places-stand}
 use Rattle.promises.specs.Map.{find, isThere, put, join, remove, merge, greaterFound, nth}

@@ -1,6 +1,6 @@
 -- A part of a list of records, in its order, keeps what the list has.
 use mathlib.Core.List.{List, Sublistᴰ, Sublistᴰ·slnil, Sublistᴰ·cons, Sublistᴰ·cons-cons}
-use Rattle.page.proofs.Tools.{All}
+use Rattle.bytestring.proofs.Tools.{All}
 use Rattle.tree.specs.Record.{Record}
 use Rattle.promises.proofs.MapLaws.{Sorted, Proper}
 

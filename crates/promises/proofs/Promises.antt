@@ -8,22 +8,23 @@ use native.Mathlib.Omega.{arith}
 use lib.ListN.{length, length-append}
 use lib.Seq.{take-append-seam}
 use borrow.Author.Tests.{le-leb}
+use Rattle.limits.specs.Limits.{longest, most}
+use Rattle.bytestring.proofs.Tools.{All, all-split, and-both}
+use Rattle.bytestring.specs.Bytes.{Bytes, ByteString}
 use Rattle.answer.specs.Answer.{Said, said}
 use Rattle.answer.specs.Inner.{LengthFits}
 use Rattle.answer.specs.declared.Refusal.{Refusal}
 use Rattle.answer.specs.declared.Refusal.the-variants.{UnlawfulKey, ValueLength}
 use Rattle.answer.specs.declared.Answer.the-variants.{Done}
 use Rattle.answer.proofs.Laws.{two-come-apart}
-use Rattle.fips180.specs.Bytes.{Bytes, ByteString}
-use Rattle.sha256.specs.Digest.{longest}
 use Rattle.key.specs.Key.{lawful}
 use Rattle.page.specs.Number.{numberBytes}
-use Rattle.page.specs.Page.{isValue, gapBytes, pageBytes}
-use Rattle.page.proofs.Tools.{All, all-split, and-both}
+use Rattle.value.specs.Value.{isValue}
+use Rattle.page.specs.Page.{gapBytes, pageBytes}
 use Rattle.tree.specs.Tree.{topLayer, part, entriesOf, pageOf, build, treeOf}
 use Rattle.tree.specs.Record.{Record, records, spelt}
 use Rattle.tree.specs.Table.{SpeltTree, linkOf, rawEntries, rawPage, bytesOfPage, table, treeOfSet, tableOf}
-use Rattle.tree.specs.Judge.{due, most, fits, Verdict, refused, accepted, judge}
+use Rattle.tree.specs.Judge.{due, fits, Verdict, refused, accepted, judge}
 use Rattle.tree.proofs.Laws.{due-none, none-due, LawfulKey, RightValue, fitting, fitting-fits, records-of-set, table-accepted, accepted-table, table-bytes, table-grows}
 use Rattle.promises.specs.Map.{put, merge}
 use Rattle.promises.specs.Pages.{pagesOf, openedPages}

@@ -7,10 +7,10 @@ use mathlib.Core.List.{List, [], _∷_, Sublistᴰ, Sublistᴰ·slnil, Sublist�
 use native.Mathlib.Omega.{arith}
 use lib.ListN.{length}
 use borrow.Table.Steps.{cases}
+use Rattle.bytestring.specs.Bytes.{ByteString}
 use Rattle.answer.specs.Answer.{numberOf}
 use Rattle.answer.specs.declared.Refusal.{Refusal}
 use Rattle.answer.specs.declared.Refusal.the-variants.{UnlawfulKey, KeyAbsent, FirstAfterLast}
-use Rattle.fips180.specs.Bytes.{ByteString}
 use Rattle.key.specs.Key.{lawful, less}
 use Rattle.key.proofs.Laws.{less-connected, less-transitive, is-false}
 use Rattle.tree.specs.Record.{Record, records}

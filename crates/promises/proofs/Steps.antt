@@ -8,13 +8,15 @@ use native.Mathlib.Omega.{arith}
 use lib.ListN.{length, length-append, length-replicate}
 use lib.Dec.{leb}
 use borrow.Author.Tests.{leb-true}
+use Rattle.limits.specs.Limits.{longest, most}
+use Rattle.bytestring.proofs.Equal.{equal-cases}
+use Rattle.bytestring.specs.Bytes.{equal}
+use Rattle.bytestring.proofs.Tools.{and-inv, all-split}
 use Rattle.answer.specs.declared.Refusal.{Refusal}
-use Rattle.sha256.specs.Digest.{longest}
-use Rattle.page.proofs.Tools.{and-inv, all-split}
 use Rattle.tree.specs.Record.{Record, records}
 use Rattle.tree.specs.Table.{SpeltTree, tableOf}
-use Rattle.tree.specs.Judge.{equal, Test, due, most, fits, Verdict, refused, accepted}
-use Rattle.tree.proofs.Laws.{equal-cases, AllTests, due-none, fitting-fits}
+use Rattle.tree.specs.Judge.{Test, due, fits, Verdict, refused, accepted}
+use Rattle.tree.proofs.Laws.{AllTests, due-none, fitting-fits}
 use Rattle.promises.specs.Map.{find, put, join, remove, merge, greaterFound}
 use Rattle.promises.specs.Outcome.{Outcome, stopped, wrote, Plan, sizes, settle, carryOut, putPlan, joinPlan, removePlan, mergePlan, onFirst, outputOf}
 use Rattle.promises.proofs.MapLaws.{Sorted, sorted-rising, find-put-same, find-put-other, find-join-same, find-join-other, find-remove-same, find-remove-other, Proper, fits-proper, proper-put, proper-join, proper-remove, proper-merge}

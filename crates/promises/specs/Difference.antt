@@ -4,13 +4,13 @@ use mathlib.Core.Bool.{Bool, false, cond}
 use mathlib.Core.Option.{Option, none, some}
 use mathlib.Core.List.{List, [], _∷_, _++_}
 use lib.ListN.{length}
+use Rattle.bytestring.specs.Bytes.{zeros, equal}
 use Rattle.answer.specs.declared.Refusal.{Refusal}
 use Rattle.answer.specs.declared.Differed.{Differed}
 use Rattle.answer.specs.declared.Differed.the-variants.{Found, Refused}
-use Rattle.fips180.specs.Hash.{zeros}
 use Rattle.tree.specs.Record.{Record, records}
 use Rattle.tree.specs.Table.{SpeltTree, tableOf}
-use Rattle.tree.specs.Judge.{due, equal, Verdict, refused, accepted, judge}
+use Rattle.tree.specs.Judge.{due, Verdict, refused, accepted, judge}
 use Rattle.promises.specs.Map.{find}
 use Rattle.promises.specs.Pages.{pagesOf, openedPages, inPages}
 use Rattle.promises.specs.Outcome.{sizes}

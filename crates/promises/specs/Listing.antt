@@ -5,10 +5,10 @@ use mathlib.Core.Bool.{cond}
 use mathlib.Core.List.{List, [], _∷_, _++_}
 use lib.ListN.{length, take}
 use lib.Dec.{ltb, leb}
+use Rattle.bytestring.specs.Bytes.{ByteString}
 use Rattle.answer.specs.Answer.{numberOf}
 use Rattle.answer.specs.declared.Refusal.{Refusal}
 use Rattle.answer.specs.declared.Refusal.the-variants.{TooLong}
-use Rattle.fips180.specs.Bytes.{ByteString}
 use Rattle.tree.specs.Record.{Record, records}
 use Rattle.tree.specs.Judge.{Verdict, refused, accepted, judge}
 

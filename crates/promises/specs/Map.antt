@@ -3,9 +3,9 @@ use Prim.Native.Nat.{ℕ, zero, suc}
 use mathlib.Core.Bool.{Bool, true, false, cond}
 use mathlib.Core.Option.{Option, none, some}
 use mathlib.Core.List.{List, [], _∷_}
+use Rattle.bytestring.specs.Bytes.{equal}
 use Rattle.key.specs.Key.{less}
 use Rattle.tree.specs.Record.{Record}
-use Rattle.tree.specs.Judge.{equal}
 
 -- The value under a key.
 unfoldable pub find : List ℕ → List Record → Option (List ℕ)

@@ -5,14 +5,16 @@ use mathlib.Core.Bool.{true, false, cond, _||_}
 use mathlib.Core.Logic.{_⊎_}
 use mathlib.Core.Option.{Option, none, some}
 use mathlib.Core.List.{List, [], _∷_, _++_}
-use lib.ListN.{length, take, drop}
+use lib.ListN.{length}
+use Rattle.value.specs.Value.{valueLength, valueIn}
+use Rattle.limits.specs.Limits.{longest, most}
+use Rattle.bytestring.specs.Bytes.{zeros, equal}
 use Rattle.answer.specs.Answer.{numberOf, refusedWith, doneWith}
 use Rattle.answer.specs.declared.Refusal.{Refusal}
-use Rattle.fips180.specs.Hash.{zeros}
 use Rattle.key.specs.Key.{lawful, SlashAfter, less}
 use Rattle.tree.specs.Record.{Record, records}
 use Rattle.tree.specs.Table.{SpeltTree, tableOf}
-use Rattle.tree.specs.Judge.{equal, rising, refused, accepted, judge}
+use Rattle.tree.specs.Judge.{rising, refused, accepted, judge}
 use Rattle.promises.specs.Map.{find, greaterFound, onlyInSecond}
 use Rattle.promises.specs.Pages.{pagesOf, openedPages, inPages}
 use Rattle.promises.specs.Register.{RegisterOf}
@@ -51,14 +53,14 @@ pub record Writes (reply : Reply) (room : ℕ) (others : List ℕ) (rs : List Re
 -- The output: 13 where the table is longer than it, or than 4,194,304 bytes.
 abbrev pub Measured : Reply → ℕ → List ℕ → List Record → Type 0
 Measured reply room others rs =
-    Check reply 13 ((room < length (tableOf rs)) ⊎ (4194304 < length (tableOf rs))) (Writes reply room others rs)
+    Check reply 13 ((room < length (tableOf rs)) ⊎ (longest < length (tableOf rs))) (Writes reply room others rs)
 
 -- The set that results is known by what each key finds in it. Last come the resulting count and the output.
 pub record ResultFinds (reply : Reply) (room : ℕ) (others : List ℕ) (finds : List ℕ → Option (List ℕ)) : Type 0 where
   pub result : List Record
   pub inOrder : rising result ≡ true
   pub found : (key : List ℕ) → find key result ≡ finds key
-  pub last : Check reply 5 (4096 < length result) (Measured reply room others result)
+  pub last : Check reply 5 (most < length result) (Measured reply room others result)
 
 -- ---- the calls
 -- Slash: 7 where the key breaks the key rule. Otherwise it answers the number of bytes before the slash.
@@ -71,21 +73,21 @@ SlashOrder k reply =
 abbrev pub CheckOrder : List ℕ → Reply → Type 0
 CheckOrder s reply = Judged s reply (λ t. reply .answer ≡ doneWith (length (records t) ∷ []))
 
--- Lookup: the key argument, then absence. It answers the place where the 32 bytes of the value begin.
+-- Lookup: the key argument, then absence. It answers the place where the value begins.
 abbrev pub LookupOrder : List ℕ → List ℕ → Reply → Type 0
 LookupOrder s k reply =
     Judged s reply (λ t.
     Check reply 7 (lawful k ≡ false)
     (Check reply 12 (find k (records t) ≡ none)
     ((v : List ℕ) → find k (records t) ≡ some v
-    → (place : ℕ) × (reply .answer ≡ doneWith (place ∷ [])) × (take 32 (drop place s) ≡ v))))
+    → (place : ℕ) × (reply .answer ≡ doneWith (place ∷ [])) × (valueIn s place ≡ v))))
 
 -- A single record: 13 where its key is longer than the output. Its key's length is answered, and key and value are written.
 abbrev pub GivesRecord : Reply → ℕ → Record → Type 0
 GivesRecord reply room r =
     Check reply 13 (room < length (r .key))
     ((reply .answer ≡ doneWith (length (r .key) ∷ []))
-    × (reply .outputs ≡ filled room (r .key) ∷ record { room = 32; bytes = r .val } ∷ []))
+    × (reply .outputs ≡ filled room (r .key) ∷ record { room = valueLength; bytes = r .val } ∷ []))
 
 -- List: from the count on it is past the end, which is answered as 0, and the outputs are zero. Otherwise it gives the record that n others come
 -- before.
@@ -144,7 +146,7 @@ abbrev pub PutOrder : List ℕ → List ℕ → List ℕ → ℕ → Reply → T
 PutOrder s k v room reply =
     Judged s reply (λ t.
     Check reply 7 (lawful k ≡ false)
-    (Check reply 11 (length v ≡ 32 → ⊥)
+    (Check reply 11 (length v ≡ valueLength → ⊥)
     (ResultFinds reply room [] (λ key. cond (equal key k) (some v) (find key (records t))))))
 
 -- Join: the same, but the key finds the greater of what it found before and the value.
@@ -152,7 +154,7 @@ abbrev pub JoinOrder : List ℕ → List ℕ → List ℕ → ℕ → Reply → 
 JoinOrder s k v room reply =
     Judged s reply (λ t.
     Check reply 7 (lawful k ≡ false)
-    (Check reply 11 (length v ≡ 32 → ⊥)
+    (Check reply 11 (length v ≡ valueLength → ⊥)
     (ResultFinds reply room [] (λ key. cond (equal key k) (greaterFound (find key (records t)) (some v)) (find key (records t))))))
 
 -- Remove: the key argument, then absence. Afterwards the key finds nothing, and every other key what it found before.

@@ -5,17 +5,17 @@ use mathlib.Core.Option.{Option, none, some}
 use mathlib.Core.List.{List, [], _∷_, _++_}
 use lib.ListN.{length}
 use lib.Dec.{leb}
+use Rattle.limits.specs.Limits.{longest, most}
+use Rattle.bytestring.specs.Bytes.{zeros}
 use Rattle.answer.specs.declared.Refusal.{Refusal}
 use Rattle.answer.specs.declared.Refusal.the-variants.{TooManyRecords, UnlawfulKey, ValueLength, KeyAbsent, NoRoom}
 use Rattle.answer.specs.declared.Answer.{Answer}
 use Rattle.answer.specs.declared.Answer.the-variants.{Done, Refused}
-use Rattle.fips180.specs.Hash.{zeros}
-use Rattle.sha256.specs.Digest.{longest}
 use Rattle.key.specs.Key.{lawful, less}
-use Rattle.page.specs.Page.{isValue}
+use Rattle.value.specs.Value.{valueLength, isValue}
 use Rattle.tree.specs.Record.{Record, records}
 use Rattle.tree.specs.Table.{tableOf}
-use Rattle.tree.specs.Judge.{Test, due, most, Verdict, refused, accepted, judge}
+use Rattle.tree.specs.Judge.{Test, due, Verdict, refused, accepted, judge}
 use Rattle.tree.specs.Place.{places}
 use Rattle.promises.specs.Map.{find, isThere, put, join, remove, merge, nth}
 
@@ -79,8 +79,8 @@ listKey pastTheEnd room = zeros room
 listKey (listed r) room = r .key ++ zeros (room - length (r .key))
 
 unfoldable pub listValue : Listed → List ℕ
-listValue (unlisted r) = zeros 32
-listValue pastTheEnd = zeros 32
+listValue (unlisted r) = zeros valueLength
+listValue pastTheEnd = zeros valueLength
 listValue (listed r) = r .val
 
 -- ---- put, remove, join, merge

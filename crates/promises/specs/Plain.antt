@@ -2,10 +2,11 @@
 use Prim.Native.Nat.{ℕ}
 use mathlib.Core.List.{List, [], _∷_}
 use lib.ListN.{take}
+use Rattle.limits.specs.Limits.{longest}
+use Rattle.bytestring.specs.Bytes.{ByteString}
 use Rattle.answer.specs.Answer.{Said, said}
 use Rattle.answer.specs.declared.Answer.{Answer}
 use Rattle.answer.specs.declared.Answer.the-variants.{Done, Refused}
-use Rattle.fips180.specs.Bytes.{ByteString}
 use Rattle.tree.specs.Record.{Record}
 use Rattle.tree.specs.Judge.{judge}
 use Rattle.promises.specs.Outcome.{Outcome, stopped, wrote, Plan, carryOut, putPlan, joinPlan, removePlan, mergePlan, putOutcome, joinOutcome, removeOutcome, mergeOutcome, answerOf, outputOf}
@@ -81,4 +82,4 @@ emptyRegister = 0xA2 ∷ 0x61 ∷ 0x65 ∷ 0x80 ∷ 0x61 ∷ 0x6C ∷ 0xF6 ∷ [
 -- The puts of these records, one after the other, each with an output of 4,194,304 bytes.
 unfoldable pub putsOf : List Record → List Call
 putsOf [] = []
-putsOf (r ∷ rs) = putCall (r .key) (r .val) 4194304 ∷ putsOf rs
+putsOf (r ∷ rs) = putCall (r .key) (r .val) longest ∷ putsOf rs

@@ -5,8 +5,8 @@ use mathlib.Core.Bool.{true, cond}
 use mathlib.Core.Logic.{_⊎_}
 use mathlib.Core.List.{List, [], _∷_, _++_}
 use lib.ListN.{length}
+use Rattle.bytestring.specs.Bytes.{Bytes, ByteString}
 use Rattle.answer.specs.Answer.{Said, refusedWith, doneWith, encodedDifference, saidOfDifference, takenApartInTwo}
-use Rattle.fips180.specs.Bytes.{Bytes, ByteString}
 use Rattle.fips180.specs.Hash.{sha256}
 use Rattle.tree.specs.Tree.{pages}
 use Rattle.tree.specs.Record.{Record, records}

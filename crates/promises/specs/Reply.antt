@@ -1,6 +1,7 @@
 -- What a caller has after a call.
 use Prim.Native.Nat.{ℕ}
 use mathlib.Core.List.{List, [], _∷_}
+use Rattle.value.specs.Value.{valueLength}
 use Rattle.answer.specs.Answer.{Said, said, saidOfDifference}
 use Rattle.key.specs.Key.{slashAnswer}
 use Rattle.promises.specs.Outcome.{checkAnswer, lookupAnswer, Listed, listOutcome, listAnswer, listKey, listValue, Outcome, putOutcome, joinOutcome, removeOutcome, mergeOutcome, answerOf, outputOf}
@@ -31,7 +32,7 @@ abbrev pub recordReply : Listed → ℕ → Reply
 recordReply o room =
     record {
       answer = said (listAnswer o);
-      outputs = record { room = room; bytes = listKey o room } ∷ record { room = 32; bytes = listValue o } ∷ [];
+      outputs = record { room = room; bytes = listKey o room } ∷ record { room = valueLength; bytes = listValue o } ∷ [];
     }
 
 abbrev pub listReply : List ℕ → ℕ → ℕ → Reply

@@ -1,37 +1,34 @@
-// The calls on registers. A register of at most 13,515 bytes is judged with short rows, so that little is cleared.
+// The calls on one register. A short register is judged with short rows, so that little is cleared.
 use answer::Answer;
-use answer::Differed;
-use calls::rows::beside_with_rows;
-use calls::rows::check_with_rows;
-use calls::rows::difference_with_rows;
-use calls::rows::list_with_rows;
-use calls::rows::lookup_with_rows;
-use calls::rows::merge_with_rows;
-use calls::rows::remove_with_rows;
-use calls::rows::run_with_rows;
-use calls::rows::set_value_with_rows;
+use limits::FEW;
+use limits::MOST;
+use limits::SHORT;
+use reading::rows::beside_with_rows;
+use reading::rows::check_with_rows;
+use reading::rows::list_with_rows;
+use reading::rows::lookup_with_rows;
+use value::Value;
+use writing::rows::remove_with_rows;
+use writing::rows::run_with_rows;
+use writing::rows::set_value_with_rows;
 ghost use mathlib.Core.Path.{_≡_};
 ghost use lib.ListN.{length};
-ghost use Rattle.promises.specs.Outcome.{checkAnswer, lookupAnswer, listOutcome, listAnswer, listKey, listValue, putOutcome, removeOutcome, joinOutcome, mergeOutcome, answerOf, outputOf};
+ghost use Rattle.promises.specs.Outcome.{checkAnswer, lookupAnswer, listOutcome, listAnswer, listKey, listValue, putOutcome, removeOutcome, joinOutcome, answerOf, outputOf};
 ghost use Rattle.promises.specs.Range.{atOrAfterOutcome, beforeOutcome, runOutcome};
-ghost use Rattle.promises.specs.Difference.{differenceOutcome, differenceAnswer, differenceOutput};
-ghost use Rattle.calls.specs.Beside.{besideOutcome};
-ghost use Rattle.calls.specs.Writing.{setOutcome};
-
-// A register of at most so many bytes has at most 255 records, since an entry has at least 53 bytes; put and join may make it 256.
-const SHORT: usize = 13_515;
+ghost use Rattle.reading.specs.Beside.{besideOutcome};
+ghost use Rattle.writing.specs.Writing.{setOutcome};
 
 // Public call: the record count of a register.
 pub fn check(register: &[u8]) -> Answer
     ensures { λ r. ⌜ r ≡ checkAnswer (now (register .entry)) ⌝ }
 {
     if register.len() <= SHORT {
-        let mut index = [0u64; 256];
-        let mut chains = [0u64; 512];
+        let mut index = [0u64; FEW];
+        let mut chains = [0u64; 2 * FEW];
         return check_with_rows(register, &mut index, &mut chains);
     }
-    let mut index = [0u64; 4096];
-    let mut chains = [0u64; 8192];
+    let mut index = [0u64; MOST];
+    let mut chains = [0u64; 2 * MOST];
     check_with_rows(register, &mut index, &mut chains)
 }
 
@@ -40,34 +37,34 @@ pub fn lookup(register: &[u8], key: &[u8]) -> Answer
     ensures { λ r. ⌜ r ≡ lookupAnswer (now (register .entry)) (now (key .entry)) ⌝ }
 {
     if register.len() <= SHORT {
-        let mut index = [0u64; 256];
-        let mut chains = [0u64; 512];
+        let mut index = [0u64; FEW];
+        let mut chains = [0u64; 2 * FEW];
         return lookup_with_rows(register, key, &mut index, &mut chains);
     }
-    let mut index = [0u64; 4096];
-    let mut chains = [0u64; 8192];
+    let mut index = [0u64; MOST];
+    let mut chains = [0u64; 2 * MOST];
     lookup_with_rows(register, key, &mut index, &mut chains)
 }
 
 // Public call: the n-th record in key order, n from 0. Its key goes to the output with zeros after it and its value beside it; the key's
 // length is answered. Past the end the answer is 0, and both outputs are zero, as they are on refusal.
-pub fn list(register: &[u8], n: u64, out: &mut [u8], value: &mut [u8; 32]) -> Answer
+pub fn list(register: &[u8], n: u64, out: &mut [u8], value: &mut Value) -> Answer
     ensures answer { λ r. ⌜ r ≡ listAnswer (listOutcome (now (register .entry)) n (length (now (out .entry)))) ⌝ }
     ensures key { λ _. ⌜ now (out .exit) ≡ listKey (listOutcome (now (register .entry)) n (length (now (out .entry)))) (length (now (out .entry))) ⌝ }
     ensures value { λ _. ⌜ now (value .exit) ≡ listValue (listOutcome (now (register .entry)) n (length (now (out .entry)))) ⌝ }
 {
     if register.len() <= SHORT {
-        let mut index = [0u64; 256];
-        let mut chains = [0u64; 512];
+        let mut index = [0u64; FEW];
+        let mut chains = [0u64; 2 * FEW];
         return list_with_rows(register, n, &mut index, &mut chains, out, value);
     }
-    let mut index = [0u64; 4096];
-    let mut chains = [0u64; 8192];
+    let mut index = [0u64; MOST];
+    let mut chains = [0u64; 2 * MOST];
     list_with_rows(register, n, &mut index, &mut chains, out, value)
 }
 
 // Public call: the first record at or after a key, as list gives one.
-pub fn at_or_after(register: &[u8], key: &[u8], out: &mut [u8], value: &mut [u8; 32]) -> Answer
+pub fn at_or_after(register: &[u8], key: &[u8], out: &mut [u8], value: &mut Value) -> Answer
     ensures answer { λ r. ⌜ r ≡ listAnswer (atOrAfterOutcome (now (register .entry)) (now (key .entry)) (length (now (out .entry)))) ⌝ }
     ensures key { λ _. ⌜ now (out .exit) ≡ listKey (atOrAfterOutcome (now (register .entry)) (now (key .entry)) (length (now (out .entry)))) (length (now (out .entry))) ⌝ }
     ensures value { λ _. ⌜ now (value .exit) ≡ listValue (atOrAfterOutcome (now (register .entry)) (now (key .entry)) (length (now (out .entry)))) ⌝ }
@@ -76,7 +73,7 @@ pub fn at_or_after(register: &[u8], key: &[u8], out: &mut [u8], value: &mut [u8;
 }
 
 // Public call: the last record before a key, as list gives one.
-pub fn before(register: &[u8], key: &[u8], out: &mut [u8], value: &mut [u8; 32]) -> Answer
+pub fn before(register: &[u8], key: &[u8], out: &mut [u8], value: &mut Value) -> Answer
     ensures answer { λ r. ⌜ r ≡ listAnswer (beforeOutcome (now (register .entry)) (now (key .entry)) (length (now (out .entry)))) ⌝ }
     ensures key { λ _. ⌜ now (out .exit) ≡ listKey (beforeOutcome (now (register .entry)) (now (key .entry)) (length (now (out .entry)))) (length (now (out .entry))) ⌝ }
     ensures value { λ _. ⌜ now (value .exit) ≡ listValue (beforeOutcome (now (register .entry)) (now (key .entry)) (length (now (out .entry)))) ⌝ }
@@ -85,18 +82,18 @@ pub fn before(register: &[u8], key: &[u8], out: &mut [u8], value: &mut [u8; 32])
 }
 
 // The record on one side of a key: the first at or after it, or the last before it.
-fn beside(register: &[u8], key: &[u8], after: bool, out: &mut [u8], value: &mut [u8; 32]) -> Answer
+fn beside(register: &[u8], key: &[u8], after: bool, out: &mut [u8], value: &mut Value) -> Answer
     ensures answer { λ r. ⌜ r ≡ listAnswer (besideOutcome after (now (register .entry)) (now (key .entry)) (length (now (out .entry)))) ⌝ }
     ensures key { λ _. ⌜ now (out .exit) ≡ listKey (besideOutcome after (now (register .entry)) (now (key .entry)) (length (now (out .entry)))) (length (now (out .entry))) ⌝ }
     ensures value { λ _. ⌜ now (value .exit) ≡ listValue (besideOutcome after (now (register .entry)) (now (key .entry)) (length (now (out .entry)))) ⌝ }
 {
     if register.len() <= SHORT {
-        let mut index = [0u64; 256];
-        let mut chains = [0u64; 512];
+        let mut index = [0u64; FEW];
+        let mut chains = [0u64; 2 * FEW];
         return beside_with_rows(register, key, after, &mut index, &mut chains, out, value);
     }
-    let mut index = [0u64; 4096];
-    let mut chains = [0u64; 8192];
+    let mut index = [0u64; MOST];
+    let mut chains = [0u64; 2 * MOST];
     beside_with_rows(register, key, after, &mut index, &mut chains, out, value)
 }
 
@@ -106,12 +103,12 @@ pub fn run(register: &[u8], first: &[u8], last: &[u8], out: &mut [u8]) -> Answer
     ensures output { λ _. ⌜ now (out .exit) ≡ outputOf (runOutcome (now (register .entry)) (now (first .entry)) (now (last .entry)) (length (now (out .entry)))) (length (now (out .entry))) ⌝ }
 {
     if register.len() <= SHORT {
-        let mut index = [0u64; 256];
-        let mut chains = [0u64; 512];
+        let mut index = [0u64; FEW];
+        let mut chains = [0u64; 2 * FEW];
         return run_with_rows(register, first, last, &mut index, &mut chains, out);
     }
-    let mut index = [0u64; 4096];
-    let mut chains = [0u64; 8192];
+    let mut index = [0u64; MOST];
+    let mut chains = [0u64; 2 * MOST];
     run_with_rows(register, first, last, &mut index, &mut chains, out)
 }
 
@@ -138,12 +135,12 @@ fn set_value(register: &[u8], key: &[u8], value: &[u8], greater: bool, out: &mut
     ensures output { λ _. ⌜ now (out .exit) ≡ outputOf (setOutcome greater (now (register .entry)) (now (key .entry)) (now (value .entry)) (length (now (out .entry)))) (length (now (out .entry))) ⌝ }
 {
     if register.len() <= SHORT {
-        let mut index = [0u64; 256];
-        let mut chains = [0u64; 512];
+        let mut index = [0u64; FEW];
+        let mut chains = [0u64; 2 * FEW];
         return set_value_with_rows(register, key, value, greater, &mut index, &mut chains, out);
     }
-    let mut index = [0u64; 4096];
-    let mut chains = [0u64; 8192];
+    let mut index = [0u64; MOST];
+    let mut chains = [0u64; 2 * MOST];
     set_value_with_rows(register, key, value, greater, &mut index, &mut chains, out)
 }
 
@@ -153,90 +150,11 @@ pub fn remove(register: &[u8], key: &[u8], out: &mut [u8]) -> Answer
     ensures output { λ _. ⌜ now (out .exit) ≡ outputOf (removeOutcome (now (register .entry)) (now (key .entry)) (length (now (out .entry)))) (length (now (out .entry))) ⌝ }
 {
     if register.len() <= SHORT {
-        let mut index = [0u64; 256];
-        let mut chains = [0u64; 512];
+        let mut index = [0u64; FEW];
+        let mut chains = [0u64; 2 * FEW];
         return remove_with_rows(register, key, &mut index, &mut chains, out);
     }
-    let mut index = [0u64; 4096];
-    let mut chains = [0u64; 8192];
+    let mut index = [0u64; MOST];
+    let mut chains = [0u64; 2 * MOST];
     remove_with_rows(register, key, &mut index, &mut chains, out)
-}
-
-// Public call: all records of two registers; of two values under one key the greater is kept.
-pub fn merge(first: &[u8], second: &[u8], out: &mut [u8]) -> Answer
-    ensures answer { λ r. ⌜ r ≡ answerOf (mergeOutcome (now (first .entry)) (now (second .entry)) (length (now (out .entry)))) ⌝ }
-    ensures output { λ _. ⌜ now (out .exit) ≡ outputOf (mergeOutcome (now (first .entry)) (now (second .entry)) (length (now (out .entry)))) (length (now (out .entry))) ⌝ }
-{
-    if first.len() <= SHORT {
-        if second.len() <= SHORT {
-            let mut index = [0u64; 256];
-            let mut chains = [0u64; 512];
-            let mut others = [0u64; 256];
-            let mut other_chains = [0u64; 512];
-            return merge_with_rows(
-                first,
-                second,
-                &mut index,
-                &mut chains,
-                &mut others,
-                &mut other_chains,
-                out,
-            );
-        }
-    }
-    let mut index = [0u64; 4096];
-    let mut chains = [0u64; 8192];
-    let mut others = [0u64; 4096];
-    let mut other_chains = [0u64; 8192];
-    merge_with_rows(
-        first,
-        second,
-        &mut index,
-        &mut chains,
-        &mut others,
-        &mut other_chains,
-        out,
-    )
-}
-
-// Public call: the register of those records of a second register, in the pages that the first does not know, that the first does not
-// hold. It goes to the output with zeros after it; its length and the number of opened pages are answered. On refusal the output is zero.
-pub fn difference(first: &[u8], second: &[u8], out: &mut [u8]) -> Differed
-    ensures answer { λ r. ⌜ r ≡ differenceAnswer (differenceOutcome (now (first .entry)) (now (second .entry)) (length (now (out .entry)))) ⌝ }
-    ensures output { λ _. ⌜ now (out .exit) ≡ differenceOutput (differenceOutcome (now (first .entry)) (now (second .entry)) (length (now (out .entry)))) (length (now (out .entry))) ⌝ }
-{
-    if first.len() <= SHORT {
-        if second.len() <= SHORT {
-            let mut index = [0u64; 256];
-            let mut chains = [0u64; 512];
-            let mut others = [0u64; 256];
-            let mut other_chains = [0u64; 512];
-            let mut staged = [0u64; 256];
-            return difference_with_rows(
-                first,
-                second,
-                &mut index,
-                &mut chains,
-                &mut others,
-                &mut other_chains,
-                &mut staged,
-                out,
-            );
-        }
-    }
-    let mut index = [0u64; 4096];
-    let mut chains = [0u64; 8192];
-    let mut others = [0u64; 4096];
-    let mut other_chains = [0u64; 8192];
-    let mut staged = [0u64; 4096];
-    difference_with_rows(
-        first,
-        second,
-        &mut index,
-        &mut chains,
-        &mut others,
-        &mut other_chains,
-        &mut staged,
-        out,
-    )
 }

@@ -7,7 +7,7 @@ use native.Mathlib.Omega.{arith}
 use lib.ListN.{length, set, getD, take, drop}
 use lib.Seq.{getD-set-other}
 use Rattle.fips180.specs.Words.{_⊞_, Ch, Σ1}
-use Rattle.fips180.specs.Hash.{K, schedule, round, rounds, plus, compress, run}
+use Rattle.fips180.specs.Hash.{K, schedule, round, rounds, plus, compress, afterBlocks}
 use Rattle.fips180.specs.declared.State.{State}
 use Rattle.rounds.specs.Inner.{Made, Sums}
 use Rattle.rounds.proofs.Making.{made-none, made-at, made-more}
@@ -68,12 +68,16 @@ eight-rounds w v s x y t h sums e f =
     (one _ (t + 1) (t + 2) (omega arith) (omega arith)
     (one _ t (t + 1) (omega arith) refl e)))))))
 
+-- after the last round the hash value from before is added
+pub rounds-end : (w : List ℕ) (s x y : State) (t : ℕ) → t ≡ 64 → x ≡ rounds t w s → y ≡ plus x s → y ≡ plus (rounds 64 w s) s
+rounds-end w s x y t e f g = g ∙ ap (λ (z : State). plus z s) (f ∙ ap (λ (k : ℕ). rounds k w s) e)
+
 pub compressed : (m w : List ℕ) (s y : State) → w ≡ schedule 64 m → y ≡ plus (rounds 64 w s) s → y ≡ compress s m
 unfolding compress
 compressed m w s y e f = f ∙ ap (λ (l : List ℕ). plus (rounds 64 l s) s) e
 
 -- one block more
-pub block-more : (m w : List ℕ) (s x y : State) (i : ℕ) → w ≡ schedule 64 (take 64 (drop (64 * i) m)) → x ≡ run i s m → y ≡ plus (rounds 64 w x) x
-    → y ≡ run (i + 1) s m
-unfolding run
+pub block-more : (m w : List ℕ) (s x y : State) (i : ℕ) → w ≡ schedule 64 (take 64 (drop (64 * i) m)) → x ≡ afterBlocks i s m → y ≡ plus (rounds 64 w x) x
+    → y ≡ afterBlocks (i + 1) s m
+unfolding afterBlocks
 block-more m w s x y i e f g = rw add-one (compressed (take 64 (drop (64 * i) m)) w x y e g ∙ ap (λ (z : State). compress z (take 64 (drop (64 * i) m))) f)

@@ -5,7 +5,7 @@ mod schedule; // the words of one block, or of four
 use fips180::State;
 ghost use mathlib.Core.Path.{_≡_};
 ghost use lib.ListN.{length};
-ghost use Rattle.fips180.specs.Hash.{compress, run};
+ghost use Rattle.fips180.specs.Hash.{compress, afterBlocks};
 
 // The hash value after one more block. The whole schedule stands before the first round.
 pub fn compress_of(s: State, m: &[u8]) -> State
@@ -18,7 +18,7 @@ pub fn compress_of(s: State, m: &[u8]) -> State
 // The hash value after four more blocks, with room in w for their words. The four schedules stand before the first round.
 pub fn compress_four(s: State, w: &mut [u32], m: &[u8]) -> State
     requires { ⌜ (length (now w) ≡ 256) × (length (now m) ≡ 256) ⌝ }
-    ensures { λ r. ⌜ r ≡ run 4 s (now (m .entry)) ⌝ }
+    ensures { λ r. ⌜ r ≡ afterBlocks 4 s (now (m .entry)) ⌝ }
 {
     schedule::schedules_of(w, m);
     let mut x = s;

@@ -1,4 +1,3 @@
-pub mod Copying
 pub mod Ways
 pub mod Rows
 pub mod Memories

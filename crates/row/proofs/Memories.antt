@@ -1,5 +1,5 @@
 -- Keys held in a memory, and the notes on them.
-use Prim.Native.Nat.{ℕ, _+_, _-_, _*_, _/_, _^_, _≤_, _<_}
+use Prim.Native.Nat.{ℕ, _+_, _-_, _*_, _^_, _≤_, _<_}
 use mathlib.Core.Path.{_≡_, sym, ap, subst, _∙_}
 use mathlib.Core.List.{List, _++_, append-assoc}
 use native.Mathlib.Omega.{arith}
@@ -8,17 +8,17 @@ use lib.Seq.{take-at, take-take, take-append-le, drop-at, drop-append-le, drop-d
 use lib.Dec.{ltb, eqb}
 use borrow.Author.Tests.{ltb-true, ltb-false, eqb-true, eqb-false}
 use borrow.Table.Steps.{cases}
+use Rattle.word.specs.Word.{isFirst, registerIn, fromSecond, NoteWord}
 use Rattle.key.proofs.Laws.{lawful-length}
-use Rattle.page.specs.Place.{Reads, pageStart}
+use Rattle.page_reader.specs.Place.{Reads, pageStart}
+use Rattle.page_keys.proofs.Buffers.{holds-whole}
 use Rattle.tree.specs.Record.{Record}
 use Rattle.index.specs.Slot.{keyOf}
-use Rattle.index.proofs.Buffers.{holds-whole}
 use Rattle.index.proofs.Standing.{steps-end, slot-steps, value-within}
 use Rattle.row.specs.Row.{sourceOf, AtPlaces}
-use Rattle.row.specs.Memory.{NoteHolds, bufferOf, Remembers, Recalls}
-use Rattle.row.specs.Notes.{NoteFor, NoteOf}
+use Rattle.row.specs.Memory.{NoteHolds, NoteFor, bufferOf, Remembers, Recalls}
 use Rattle.row.specs.Fetch.{Fetched, FetchSays}
-use Rattle.row.specs.declared.fetch.Found.{Found}
+use Rattle.row.specs.declared.fetch.FetchedAt.{FetchedAt}
 use Rattle.row.proofs.Rows.{source-first, source-second, source-short, word-record}
 
 -- ---- notes
@@ -31,13 +31,13 @@ pub other-note : (word note : ℕ) → NoteFor word note 0
 unfolding NoteFor
 other-note word note s u buffer h = no-note (sourceOf s u word) buffer
 
-same-source : (s u : List ℕ) (v w : ℕ) → v / 2 ^ 60 ≡ w / 2 ^ 60 → sourceOf s u v ≡ sourceOf s u w
+same-source : (s u : List ℕ) (v w : ℕ) → registerIn v ≡ registerIn w → sourceOf s u v ≡ sourceOf s u w
 same-source s u v w e =
-    cases (ltb w (2 ^ 60))
-    (λ q. source-first s u v (omega (arith, ltb-true w (2 ^ 60) q)) ∙ sym (source-first s u w (ltb-true w (2 ^ 60) q)))
-    (λ q. source-second s u v (omega (arith, ltb-false w (2 ^ 60) q)) ∙ sym (source-second s u w (ltb-false w (2 ^ 60) q)))
+    cases (isFirst w)
+    (λ q. source-first s u v (omega (arith, ltb-true w fromSecond q)) ∙ sym (source-first s u w (ltb-true w fromSecond q)))
+    (λ q. source-second s u v (omega (arith, ltb-false w fromSecond q)) ∙ sym (source-second s u w (ltb-false w fromSecond q)))
 
-pub same-note : (word note : ℕ) → note / 2 ^ 60 ≡ word / 2 ^ 60 → NoteFor word note note
+pub same-note : (word note : ℕ) → registerIn note ≡ registerIn word → NoteFor word note note
 unfolding NoteFor
 same-note word note e s u buffer h = subst (λ (v : List ℕ). NoteHolds v note buffer) (same-source s u note word e) h
 
@@ -128,7 +128,7 @@ module _ {s u keys notes : List ℕ} (mem : Remembers s u keys notes) (j : ℕ) 
 -- ---- a record that is recalled
 -- The slot of the word is fetched into the part of the memory that is lent, k bytes, which are 256.
 module _ {s u keys notes : List ℕ} {word slot : ℕ} (stands : AtPlaces s u word) (mem : Remembers s u keys notes) (room : slot < length notes)
-    (k : ℕ) (whole : k ≡ 256) (note : ℕ) (for : NoteFor word (getD notes slot 0) note) (part : List ℕ) (found : Found)
+    (k : ℕ) (whole : k ≡ 256) (note : ℕ) (for : NoteFor word (getD notes slot 0) note) (part : List ℕ) (found : FetchedAt)
     (f : FetchSays (sourceOf s u word) word (take k (drop (256 * slot) keys)) note part found) where
   fetched : Fetched (sourceOf s u word) (stands .slot) (stands .there) part found
   unfolding FetchSays NoteFor
@@ -141,7 +141,7 @@ module _ {s u keys notes : List ℕ} {word slot : ℕ} (stands : AtPlaces s u wo
   pub size-small : found .size ≤ 256
   size-small = omega (arith, fetched .holds .size, lawful-length (keyOf (stands .slot)) (stands .lawful))
 
-  module _ (size : length part ≡ 256) (new : ℕ) (of : NoteOf word (found .next) (found .size) new) where
+  module _ (size : length part ≡ 256) (new : ℕ) (of : NoteWord word (found .next) (found .size) new) where
     held-in : NoteHolds (sourceOf s u word) new part
     unfolding NoteHolds
     held-in some count first start =
@@ -155,7 +155,7 @@ module _ {s u keys notes : List ℕ} {word slot : ℕ} (stands : AtPlaces s u wo
         }
 
     held : NoteHolds (sourceOf s u new) new part
-    held = subst (λ (v : List ℕ). NoteHolds v new part) (same-source s u word new (sym (of .side))) held-in
+    held = subst (λ (v : List ℕ). NoteHolds v new part) (same-source s u word new (sym (of .register))) held-in
 
     abbrev after : List ℕ
     after = take (256 * slot) keys ++ (part ++ drop k (drop (256 * slot) keys))

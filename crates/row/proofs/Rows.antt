@@ -7,40 +7,38 @@ use native.Mathlib.Numerals.{add-one}
 use native.Mathlib.Omega.{arith}
 use lib.ListN.{length, take, drop, getD, length-map, length-drop}
 use lib.Seq.{take-all, take-suc, take-add, length-take-le}
-use lib.Dec.{ltb}
 use borrow.Author.Tests.{lt-ltb, le-ltb, eq-eqb, ne-eqb}
 use borrow.Table.Steps.{cases}
-use Rattle.fips180.specs.Bytes.{Bytes}
+use Rattle.bytestring.proofs.Tools.{and-inv}
+use Rattle.bytestring.specs.Bytes.{Bytes}
+use Rattle.word.specs.Word.{pageIn, entryIn, layerIn, fromSecond, isFirst, secondWord}
 use Rattle.key.specs.Key.{lawful}
-use Rattle.key.proofs.Laws.{layer-le}
 use Rattle.page.specs.Page.{RawEntry, entry}
-use Rattle.page.specs.Place.{Reads}
-use Rattle.page.proofs.Tools.{and-inv}
+use Rattle.page_reader.specs.Place.{Reads}
+use Rattle.page_keys.specs.Keys.{keyAfter}
 use Rattle.tree.specs.Record.{records}
 use Rattle.tree.specs.Table.{SpeltTree}
 use Rattle.tree.specs.Judge.{accepted, judge}
 use Rattle.tree.proofs.Laws.{Fitting, all-lawful, accepted-table}
 use Rattle.index.specs.Slot.{Slot, slots, keyOf, lawfulSlots}
-use Rattle.index.specs.Word.{pageIn, entryIn}
-use Rattle.index.specs.Word as indexed
 use Rattle.index.specs.Walk.{WordOf, blank, HoldsWords, Indexes}
-use Rattle.index.specs.Standing.{keyAfter, Steps, here, next, SlotAt}
+use Rattle.index.specs.Standing.{Steps, here, next, SlotAt}
 use Rattle.index.proofs.SlotLaws.{slots-length, slots-lawful, slot-record}
 use Rattle.index.proofs.Standing.{steps-ahead, accepted-slot-stands}
-use Rattle.row.specs.Row.{fromSecond, sourceOf, layerIn, nothing, whenRead, recordFrom, recordAt, recordOf, AtPlaces, Stands, Row, recordsOf}
+use Rattle.row.specs.Row.{sourceOf, nothing, whenRead, recordFrom, recordAt, recordOfWord, AtPlaces, Stands, Row, recordsOf}
 
 -- ---- the register that a word belongs to
-pub source-first : (s u : List ℕ) (w : ℕ) → w < 2 ^ 60 → sourceOf s u w ≡ s
+pub source-first : (s u : List ℕ) (w : ℕ) → w < fromSecond → sourceOf s u w ≡ s
 unfolding sourceOf
 source-first s u w h = rw (lt-ltb w fromSecond h)
 
-pub source-second : (s u : List ℕ) (w : ℕ) → 2 ^ 60 ≤ w → sourceOf s u w ≡ u
+pub source-second : (s u : List ℕ) (w : ℕ) → fromSecond ≤ w → sourceOf s u w ≡ u
 unfolding sourceOf
 source-second s u w h = rw (le-ltb w fromSecond h)
 
 pub source-same : (s : List ℕ) (w : ℕ) → sourceOf s s w ≡ s
 unfolding sourceOf
-source-same s w = cases (ltb w fromSecond) (λ q. rw q) (λ q. rw q)
+source-same s w = cases (isFirst w) (λ q. rw q) (λ q. rw q)
 
 -- what is said of that register is said of its bytes
 pub value-in : (s u : List ℕ) (w : ℕ) (v : List ℕ) (at : ℕ) (r : List ℕ) → sourceOf s u w ≡ v → (at + 32 ≤ length v → r ≡ take 32 (drop at v))
@@ -49,7 +47,7 @@ value-in s u w v at r e f = rw e f
 
 pub source-short : (s u : List ℕ) (w n : ℕ) → length s < n → length u < n → length (sourceOf s u w) < n
 unfolding sourceOf
-source-short s u w n h k = cases (ltb w fromSecond) (λ q. rw q h) (λ q. rw q k)
+source-short s u w n h k = cases (isFirst w) (λ q. rw q h) (λ q. rw q k)
 
 -- ---- the record at a word's places
 module _ (s : List ℕ) (to past : ℕ) (e : RawEntry) (before : List ℕ) (r : Reads entry s to e past) where
@@ -74,8 +72,8 @@ record-at {s} {x} v w p e =
     (record-there s (x .entry) (v .past) (v .spells) (v .before) (v .reads) (length s) (v .first) [] (omega (arith, v .start .ahead)) (v .steps)
     ∙ rw (v .key, v .val))
 
-pub word-record : {s u : List ℕ} {w : ℕ} (v : AtPlaces s u w) → recordOf s u w ≡ v .slot .item
-unfolding recordOf
+pub word-record : {s u : List ℕ} {w : ℕ} (v : AtPlaces s u w) → recordOfWord s u w ≡ v .slot .item
+unfolding recordOfWord
 word-record {w} v = record-at (v .there) w (v .page) (v .entry)
 
 -- ---- the records of a row
@@ -84,25 +82,25 @@ unfolding recordsOf
 records-none s u row = refl
 
 -- one more word, one more record at the end
-records-suc : (s u row : List ℕ) (n : ℕ) → n < length row → recordsOf s u row (suc n) ≡ recordsOf s u row n ++ (recordOf s u (getD row n 0) ∷ [])
+records-suc : (s u row : List ℕ) (n : ℕ) → n < length row → recordsOf s u row (suc n) ≡ recordsOf s u row n ++ (recordOfWord s u (getD row n 0) ∷ [])
 unfolding recordsOf
-records-suc s u row n h = ap (map (recordOf s u)) (take-suc row n 0 h) ∙ map-append (recordOf s u) (take n row) (getD row n 0 ∷ [])
+records-suc s u row n h = ap (map (recordOfWord s u)) (take-suc row n 0 h) ∙ map-append (recordOfWord s u) (take n row) (getD row n 0 ∷ [])
 
-pub records-more : (s u row : List ℕ) (n : ℕ) → n < length row → recordsOf s u row (n + 1) ≡ recordsOf s u row n ++ (recordOf s u (getD row n 0) ∷ [])
+pub records-more : (s u row : List ℕ) (n : ℕ) → n < length row → recordsOf s u row (n + 1) ≡ recordsOf s u row n ++ (recordOfWord s u (getD row n 0) ∷ [])
 records-more s u row n h = rw (add-one n) (records-suc s u row n h)
 
 -- the first n records, and the others
 pub records-split : (s u row : List ℕ) (n count : ℕ) → n ≤ count
-    → recordsOf s u row count ≡ recordsOf s u row n ++ map (recordOf s u) (take (count - n) (drop n row))
+    → recordsOf s u row count ≡ recordsOf s u row n ++ map (recordOfWord s u) (take (count - n) (drop n row))
 unfolding recordsOf
 records-split s u row n count h =
     let e : count ≡ n + (count - n) = omega arith in
-    ap (λ (m : ℕ). map (recordOf s u) (take m row)) e ∙ ap (map (recordOf s u)) (take-add n (count - n) row)
-    ∙ map-append (recordOf s u) (take n row) (take (count - n) (drop n row))
+    ap (λ (m : ℕ). map (recordOfWord s u) (take m row)) e ∙ ap (map (recordOfWord s u)) (take-add n (count - n) row)
+    ∙ map-append (recordOfWord s u) (take n row) (take (count - n) (drop n row))
 
 pub records-length : (s u row : List ℕ) (n : ℕ) → n ≤ length row → length (recordsOf s u row n) ≡ n
 unfolding recordsOf
-records-length s u row n h = length-map (take n row) (recordOf s u) ∙ length-take-le n row h
+records-length s u row n h = length-map (take n row) (recordOfWord s u) ∙ length-take-le n row h
 
 -- ---- words of an index
 -- The word w of a row leads to the same record of the register v as the index's word.
@@ -110,13 +108,13 @@ pub record LeadsAs (s u v : List ℕ) (w word : ℕ) : Type 0 where
   pub source : sourceOf s u w ≡ v
   pub page : pageIn w ≡ pageIn word
   pub entry : entryIn w ≡ entryIn word
-  pub layer : word < 2 ^ 56 → layerIn w ≡ indexed.layerIn word
+  pub layer : layerIn w ≡ layerIn word
 
-leads-first : (s u : List ℕ) (w : ℕ) → w < 2 ^ 56 → LeadsAs s u s w w
-leads-first s u w h = record { source = source-first s u w (omega arith); page = refl; entry = refl; layer = λ g. omega arith }
+leads-first : (s u : List ℕ) (w : ℕ) → w < fromSecond → LeadsAs s u s w w
+leads-first s u w h = record { source = source-first s u w h; page = refl; entry = refl; layer = refl }
 
-leads-second : (s u : List ℕ) (w : ℕ) → LeadsAs s u u (w + 2 ^ 60) w
-leads-second s u w = record { source = source-second s u (w + 2 ^ 60) (omega arith); page = omega arith; entry = omega arith; layer = λ g. omega arith }
+pub leads-second : (s u : List ℕ) (w : ℕ) → LeadsAs s u u (secondWord w) w
+leads-second s u w = record { source = source-second s u (secondWord w) (omega arith); page = omega arith; entry = omega arith; layer = omega arith }
 
 pub lawful-slot : (xs : List Slot) → lawfulSlots xs ≡ true → (i : ℕ) → i < length xs → lawful (keyOf (getD xs i blank)) ≡ true
 unfolding lawfulSlots
@@ -150,9 +148,8 @@ module _ (v index : List ℕ) (t : SpeltTree) (count : ℕ) (bytes : Bytes v) (j
     keeps-rule : lawful (keyOf slot) ≡ true
     keeps-rule = lawful-slot (slots 0 0 t) (slots-lawful 0 0 t ∙ all-lawful (records t) (fit .keys)) i within
 
-    -- no layer is above 128
-    pub word-small : getD index i 0 < 2 ^ 56
-    word-small = omega (arith, word .layer keeps-rule, layer-le (keyOf slot))
+    pub word-small : getD index i 0 < fromSecond
+    word-small = word .first
 
     module _ {s u : List ℕ} {w : ℕ} (leads : LeadsAs s u v w (getD index i 0)) where
       leads-stands : Stands s u w
@@ -164,11 +161,11 @@ module _ (v index : List ℕ) (t : SpeltTree) (count : ℕ) (bytes : Bytes v) (j
           entry = leads .entry ∙ word .entry;
           lawful = keeps-rule;
         };
-        layer = leads .layer word-small ∙ word .layer keeps-rule;
+        layer = leads .layer ∙ word .layer keeps-rule;
       }
 
-      leads-record : recordOf s u w ≡ getD (records t) i nothing
-      unfolding recordOf
+      leads-record : recordOfWord s u w ≡ getD (records t) i nothing
+      unfolding recordOfWord
       leads-record =
           rw (leads .source) (record-at there w (leads .page ∙ word .page) (leads .entry ∙ word .entry)) ∙ slot-record 0 0 t i blank within nothing
 
@@ -191,7 +188,7 @@ module _ (v index : List ℕ) (t : SpeltTree) (count : ℕ) (bytes : Bytes v) (j
     pub first-stands : (i : ℕ) → i < count → Stands v u (getD index i 0)
     first-stands i h = leads-stands i h (leads-first v u (getD index i 0) (word-small i h))
 
-    pub first-record : (i : ℕ) → i < count → recordOf v u (getD index i 0) ≡ getD (records t) i nothing
+    pub first-record : (i : ℕ) → i < count → recordOfWord v u (getD index i 0) ≡ getD (records t) i nothing
     first-record i h = leads-record i h (leads-first v u (getD index i 0) (word-small i h))
 
     pub accepted-row : length u < 2 ^ 24 → Row v u index count
@@ -202,13 +199,13 @@ module _ (v index : List ℕ) (t : SpeltTree) (count : ℕ) (bytes : Bytes v) (j
 
   -- ---- as the second register
   module _ (s : List ℕ) where
-    pub second-stands : (i : ℕ) → i < count → Stands s v (getD index i 0 + 2 ^ 60)
+    pub second-stands : (i : ℕ) → i < count → Stands s v (secondWord (getD index i 0))
     second-stands i h = leads-stands i h (leads-second s v (getD index i 0))
 
-    pub second-record : (i : ℕ) → i < count → recordOf s v (getD index i 0 + 2 ^ 60) ≡ getD (records t) i nothing
+    pub second-record : (i : ℕ) → i < count → recordOfWord s v (secondWord (getD index i 0)) ≡ getD (records t) i nothing
     second-record i h = leads-record i h (leads-second s v (getD index i 0))
 
-    module _ (row : List ℕ) (fits : count ≤ length row) (words : (i : ℕ) → i < count → getD row i 0 ≡ getD index i 0 + 2 ^ 60) where
+    module _ (row : List ℕ) (fits : count ≤ length row) (words : (i : ℕ) → i < count → getD row i 0 ≡ secondWord (getD index i 0)) where
       leads-words : (i : ℕ) → i < count → LeadsAs s v v (getD row i 0) (getD index i 0)
       leads-words i h = rw (words i h) (leads-second s v (getD index i 0))
 

@@ -10,27 +10,27 @@ use lib.ListN.{length, take, getD, length-map}
 use lib.Dec.{leb}
 use borrow.Author.Tests.{leb-true, leb-false}
 use borrow.Table.Steps.{cases}
-use Rattle.fips180.specs.Bytes.{Bytes}
+use Rattle.bytestring.proofs.Tools.{and-inv}
+use Rattle.bytestring.specs.Bytes.{Bytes}
 use Rattle.key.specs.Key.{lawful, less, order}
-use Rattle.key.specs.declared.order.Order.{Order}
-use Rattle.key.specs.declared.order.Order.the-variants.{Less, Equal, Greater}
+use Rattle.key.specs.declared.Order.{Order}
+use Rattle.key.specs.declared.Order.the-variants.{Less, Equal, Greater}
 use Rattle.key.proofs.Laws.{lawful-length, less-irreflexive, less-transitive, less-asymmetric, less-same, order-less, order-equal, order-greater}
-use Rattle.page.proofs.Tools.{and-inv}
+use Rattle.page_keys.specs.Buffer.{HoldsKey}
+use Rattle.page_keys.proofs.Buffers.{holds-whole}
 use Rattle.tree.specs.Record.{Record, records}
 use Rattle.tree.specs.Table.{SpeltTree}
 use Rattle.tree.specs.Judge.{allLawful, rising, accepted, judge}
 use Rattle.tree.specs.Place.{places}
 use Rattle.tree.proofs.Laws.{Fitting, all-lawful, accepted-table}
 use Rattle.index.specs.Slot.{Slot, slots, keyOf}
-use Rattle.index.specs.Buffer.{HoldsKey}
 use Rattle.index.specs.Walk.{WordOf, blank, HoldsWords, Indexes}
-use Rattle.index.proofs.Buffers.{holds-whole}
 use Rattle.index.proofs.SlotLaws.{slots-length, slots-places, slot-record, slot-place}
 use Rattle.index.proofs.Standing.{accepted-slot-stands}
 use Rattle.promises.specs.Outcome.{placeOf}
 use Rattle.row.specs.Row.{nothing}
 use Rattle.row.specs.Fetch.{Fetched, FetchSays}
-use Rattle.row.specs.declared.fetch.Found.{Found}
+use Rattle.row.specs.declared.fetch.FetchedAt.{FetchedAt}
 use Rattle.row.proofs.Memories.{no-note}
 use Rattle.row.specs.Search.{keyAt, countBelow, countUpTo, PositionFits, SearchSays, CountSays}
 use Rattle.row.specs.declared.search.Searched.{Searched}
@@ -138,7 +138,7 @@ module _ (s index : List ℕ) (count : ℕ) (k : List ℕ) where
     middle = low + (high - low) / 2
 
     module _ (bytes : Bytes s) (room : count ≤ length index) (more : low < high)
-        (buffer₀ buffer : List ℕ) (found : Found) (w : FetchSays s (getD index middle 0) buffer₀ 0 buffer found) where
+        (buffer₀ buffer : List ℕ) (found : FetchedAt) (w : FetchSays s (getD index middle 0) buffer₀ 0 buffer found) where
       -- the record at the middle
       module _ (t : SpeltTree) (a : judge s ≡ accepted t) (c : count ≡ length (records t)) (x : Indexes index (slots 0 0 t)) where
         fit : Fitting (records t)

@@ -4,23 +4,23 @@ use mathlib.Core.Path.{_≡_, sym, subst, _∙_}
 use mathlib.Core.List.{List}
 use native.Mathlib.Omega.{arith}
 use lib.ListN.{length, drop}
-use Rattle.page.specs.Place.{EntryHere, Located, LocatedIs, NumberIs, pageStart, Reads, stopped}
+use Rattle.page_reader.specs.Place.{EntryHere, Located, LocatedIs, NumberIs, pageStart, Reads, readStop}
 use Rattle.page.specs.Page.{entry as entryReader}
-use Rattle.page.specs.declared.reading.Stop.{Stop}
-use Rattle.page.specs.declared.reading.EntryAt.{EntryAt}
-use Rattle.page.specs.declared.reading.EntryRead.{EntryRead}
-use Rattle.page.specs.declared.reading.EntryRead.the-variants.{Entry, EntryStop}
-use Rattle.page.specs.declared.reading.NumberRead.{NumberRead}
-use Rattle.page.specs.declared.reading.NumberRead.the-variants.{Number, NumberStop}
+use Rattle.page_reader.specs.declared.Stop.{Stop}
+use Rattle.page_reader.specs.declared.EntryAt.{EntryAt}
+use Rattle.page_reader.specs.declared.EntryRead.{EntryRead}
+use Rattle.page_reader.specs.declared.EntryRead.the-variants.{Entry, EntryStop}
+use Rattle.page_reader.specs.declared.NumberRead.{NumberRead}
+use Rattle.page_reader.specs.declared.NumberRead.the-variants.{Number, NumberStop}
+use Rattle.page_keys.specs.Buffer.{HoldsKey, Extended}
+use Rattle.page_keys.proofs.Buffers.{holds-none}
 use Rattle.index.specs.Slot.{Slot}
-use Rattle.index.specs.Buffer.{HoldsKey, Extended}
-use Rattle.index.specs.Word.{pageIn, entryIn}
+use Rattle.word.specs.Word.{pageIn, entryIn, sizeIn}
 use Rattle.index.specs.Standing.{SlotAt}
-use Rattle.index.proofs.Buffers.{holds-none}
 use Rattle.index.proofs.Standing.{same-end, read-not-stopped, steps-ahead, steps-done, steps-next, steps-there, steps-split, slot-steps, slot-key, slot-value}
-use Rattle.row.specs.Memory.{sizeIn, NoteHolds}
+use Rattle.row.specs.Memory.{NoteHolds}
 use Rattle.row.specs.Fetch.{FetchSays, OnTheWay, StartSays}
-use Rattle.row.specs.declared.fetch.Found.{Found}
+use Rattle.row.specs.declared.fetch.FetchedAt.{FetchedAt}
 use Rattle.row.specs.declared.fetch.Start.{Start}
 use Rattle.row.specs.declared.fetch.Start.the-variants.{At, Nowhere}
 
@@ -36,8 +36,8 @@ module _ (s : List ℕ) (page : ℕ) (m : NumberRead) (v : NumberIs pageStart s 
   -- no page begins there
   pub from-nowhere : (stop : Stop) → m ≡ NumberStop stop → (entry note : ℕ) → StartSays s page entry note Nowhere
   from-nowhere stop q entry note x w p =
-      let at-page : pageStart (drop (x .page) s) ≡ stopped stop =
-      subst (λ (i : ℕ). pageStart (drop i s) ≡ stopped stop) p (subst (NumberIs pageStart s page) q v) in
+      let at-page : pageStart (drop (x .page) s) ≡ readStop stop =
+      subst (λ (i : ℕ). pageStart (drop i s) ≡ readStop stop) p (subst (NumberIs pageStart s page) q v) in
       read-not-stopped (w .start) stop at-page
 
 -- after the key that the note is about
@@ -54,7 +54,7 @@ module _ (s : List ℕ) (page entry note : ℕ) (m : Start) (v : StartSays s pag
   pub way-begins : (first size : ℕ) → m ≡ At first size → (buffer : List ℕ) → OnTheWay s page entry note buffer first buffer size
   way-begins first size q = subst (StartSays s page entry note) q v
 
-  pub no-way : m ≡ Nowhere → (word : ℕ) → page ≡ pageIn word → (buffer buffer′ : List ℕ) (r : Found) → FetchSays s word buffer note buffer′ r
+  pub no-way : m ≡ Nowhere → (word : ℕ) → page ≡ pageIn word → (buffer buffer′ : List ℕ) (r : FetchedAt) → FetchSays s word buffer note buffer′ r
   unfolding FetchSays
   no-way q word same-page buffer buffer′ r x w p e h = absurd (subst (StartSays s page entry note) q v x w (same-page ∙ p))
 
@@ -89,7 +89,7 @@ module _ (s : List ℕ) (word page entry note at : ℕ) (buffer₀ buffer : List
         steps-there (y .steps) before (λ a to r.
         record { key = _; holds = z (y .key) (y .holds); steps = steps-next (y .steps) before (located s at m v e q .here a to r .whole) })
 
-    pub way-stops : (stop : Stop) → m ≡ EntryStop stop → (buffer′ : List ℕ) (r : Found) → FetchSays s word buffer₀ note buffer′ r
+    pub way-stops : (stop : Stop) → m ≡ EntryStop stop → (buffer′ : List ℕ) (r : FetchedAt) → FetchSays s word buffer₀ note buffer′ r
     unfolding OnTheWay FetchSays
     way-stops stop q buffer′ r x w p k held =
         steps-there (u x w (same-page ∙ p) (same-entry ∙ k) held .steps) (omega (arith, same-entry, k)) (λ a to reads.
@@ -120,7 +120,7 @@ module _ (s : List ℕ) (word page entry note at : ℕ) (buffer₀ buffer : List
           next = same-end (here .whole) (w .reads);
         }
 
-    pub way-breaks : (stop : Stop) → m ≡ EntryStop stop → (buffer′ : List ℕ) (r : Found) → FetchSays s word buffer₀ note buffer′ r
+    pub way-breaks : (stop : Stop) → m ≡ EntryStop stop → (buffer′ : List ℕ) (r : FetchedAt) → FetchSays s word buffer₀ note buffer′ r
     unfolding FetchSays
     way-breaks stop q buffer′ r x w p k held =
         absurd (subst (LocatedIs s at) q v (w .spells) (w .past) (entry-read x w (arrived x w p k held)))

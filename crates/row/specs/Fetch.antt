@@ -2,22 +2,22 @@
 use Prim.Native.Nat.{ℕ}
 use mathlib.Core.Path.{_≡_}
 use mathlib.Core.List.{List}
+use Rattle.word.specs.Word.{pageIn, entryIn}
+use Rattle.page_keys.specs.Buffer.{HoldsKey}
 use Rattle.index.specs.Slot.{Slot, keyOf}
-use Rattle.index.specs.Buffer.{HoldsKey}
-use Rattle.index.specs.Word.{pageIn, entryIn}
 use Rattle.index.specs.Standing.{Steps, SlotAt}
 use Rattle.row.specs.Memory.{NoteHolds}
-use Rattle.row.specs.declared.fetch.Found.{Found}
+use Rattle.row.specs.declared.fetch.FetchedAt.{FetchedAt}
 use Rattle.row.specs.declared.fetch.Start.{Start}
 use Rattle.row.specs.declared.fetch.Start.the-variants.{At, Nowhere}
 
 -- The key of the slot at the word's places is held, its value's place is found, and its entry ends at the place answered.
-pub record Fetched (s : List ℕ) (x : Slot) (w : SlotAt s x) (buffer : List ℕ) (r : Found) : Type 0 where
+pub record Fetched (s : List ℕ) (x : Slot) (w : SlotAt s x) (buffer : List ℕ) (r : FetchedAt) : Type 0 where
   pub holds : HoldsKey buffer (r .size) (keyOf x)
   pub value : r .value ≡ x .value
   pub next : r .next ≡ w .past
 
-unfoldable pub FetchSays : List ℕ → ℕ → List ℕ → ℕ → List ℕ → Found → Type 0
+unfoldable pub FetchSays : List ℕ → ℕ → List ℕ → ℕ → List ℕ → FetchedAt → Type 0
 FetchSays s word buffer note buffer′ r =
     (x : Slot) (w : SlotAt s x) → pageIn word ≡ x .page → entryIn word ≡ x .entry → NoteHolds s note buffer → Fetched s x w buffer′ r
 

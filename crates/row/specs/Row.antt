@@ -1,30 +1,24 @@
 -- A row of records that stand in two registers: a word for each.
-use Prim.Native.Nat.{ℕ, zero, suc, _-_, _/_, _%_, _^_, _≤_, _<_}
+use Prim.Native.Nat.{ℕ, zero, suc, _-_, _^_, _≤_, _<_}
 use mathlib.Core.Path.{_≡_}
 use mathlib.Core.Bool.{true, cond}
 use mathlib.Core.List.{List, [], map}
 use lib.ListN.{length, take, drop, getD}
-use lib.Dec.{eqb, ltb}
+use lib.Dec.{eqb}
+use Rattle.word.specs.Word.{pageIn, entryIn, layerIn, isFirst}
 use Rattle.key.specs.Key.{lawful}
 use Rattle.key.specs.Layer.{layerOf}
 use Rattle.page.specs.Reading.{Read, read, endsEarly, departs}
 use Rattle.page.specs.Page.{RawEntry, entry}
-use Rattle.page.specs.Place.{pageStart}
+use Rattle.page_reader.specs.Place.{pageStart}
+use Rattle.page_keys.specs.Keys.{keyAfter}
 use Rattle.tree.specs.Record.{Record}
 use Rattle.index.specs.Slot.{Slot, keyOf}
-use Rattle.index.specs.Word.{pageIn, entryIn}
-use Rattle.index.specs.Standing.{keyAfter, SlotAt}
+use Rattle.index.specs.Standing.{SlotAt}
 
--- A word of a row is a word of the first register's index, or 2^60 more than one of the second's.
-abbrev pub fromSecond : ℕ
-fromSecond = 2 ^ 60
-
+-- The register that a word belongs to.
 unfoldable pub sourceOf : List ℕ → List ℕ → ℕ → List ℕ
-sourceOf s u w = cond (ltb w fromSecond) s u
-
--- The layer in a word, whichever register it belongs to.
-abbrev pub layerIn : ℕ → ℕ
-layerIn w = w / 2 ^ 48 % 2 ^ 8
+sourceOf s u w = cond (isFirst w) s u
 
 -- What is read, taken on; nothing where the reading stops.
 pub nothing : Record
@@ -48,8 +42,8 @@ recordAt s w =
     whenRead (pageStart (drop (pageIn w) s)) (λ (count : ℕ) (rest : List ℕ).
     recordFrom (length s) s (length s - length rest) [] (entryIn w))
 
-unfoldable pub recordOf : List ℕ → List ℕ → ℕ → Record
-recordOf s u w = recordAt (sourceOf s u w) w
+unfoldable pub recordOfWord : List ℕ → List ℕ → ℕ → Record
+recordOfWord s u w = recordAt (sourceOf s u w) w
 
 -- A record with a lawful key stands at the places in a word.
 pub record AtPlaces (s u : List ℕ) (w : ℕ) : Type 0 where
@@ -73,4 +67,4 @@ pub record Row (s u row : List ℕ) (n : ℕ) : Type 0 where
   pub stands : (i : ℕ) → i < n → Stands s u (getD row i 0)
 
 unfoldable pub recordsOf : List ℕ → List ℕ → List ℕ → ℕ → List Record
-recordsOf s u row n = map (recordOf s u) (take n row)
+recordsOf s u row n = map (recordOfWord s u) (take n row)

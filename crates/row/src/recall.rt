@@ -1,10 +1,12 @@
 // A record of a row, from where its page was left.
 use crate::fetch::fetch_of;
+use word::layer_in;
+use word::note_word;
+use word::register_in;
 ghost use Prim.Native.Nat.{_+_, _≤_, _<_, _^_};
 ghost use lib.ListN.{length};
 ghost use Rattle.row.specs.Row.{AtPlaces};
-ghost use Rattle.row.specs.Memory.{Remembers, Recalls};
-ghost use Rattle.row.specs.Notes.{NoteFor, NoteOf};
+ghost use Rattle.row.specs.Memory.{NoteFor, Remembers, Recalls};
 
 // Where a key stands in the memory, its length, and the place of its value in its register.
 pub struct Recalled {
@@ -18,30 +20,17 @@ pub struct Recalled {
 fn slot_of(word: u64) -> usize
     ensures { λ r. ⌜ r < 64 ⌝ }
 {
-    let layer = (word / 0x1_0000_0000_0000 % 32) as usize;
-    let side = (word / 0x1000_0000_0000_0000 % 2) as usize;
-    side * 32 + layer
+    register_in(word) % 2 * 32 + layer_in(word) % 32
 }
 
 // A note on a key of the register that the word belongs to; on another register's it is none.
 fn note_for(word: u64, note: u64) -> u64
     ensures { λ r. ⌜ NoteFor word note r ⌝ }
 {
-    if note / 0x1000_0000_0000_0000 == word / 0x1000_0000_0000_0000 {
+    if register_in(note) == register_in(word) {
         return note;
     }
     0
-}
-
-// The note on the key of a word, of this length, whose entry ends at next.
-fn note_of(word: u64, next: usize, size: usize) -> u64
-    requires { ⌜ (next < 2 ^ 24) × (size ≤ 256) ⌝ }
-    ensures { λ r. ⌜ NoteOf word next size r ⌝ }
-{
-    word % 0x100_0000
-        + next as u64 * 0x100_0000
-        + size as u64 * 0x1_0000_0000_0000
-        + word / 0x1000_0000_0000_0000 * 0x1000_0000_0000_0000
 }
 
 // The record of a word of a row. The slots from base on are used: a pass over a row has its own.
@@ -63,6 +52,6 @@ pub fn recall(
     let found = fetch_of(s, u, word, &mut keys[from..to], note);
     let size = found.size;
     let value = found.value;
-    notes[slot] = note_of(word, found.next, size);
+    notes[slot] = note_word(word, found.next, size);
     Recalled { from, size, value }
 }

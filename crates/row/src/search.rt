@@ -1,7 +1,7 @@
 // Where a key stands among the records of an index, by halves of it.
 use crate::fetch::fetch_from;
-use key::order::Order;
-use key::order::compare;
+use key::Order;
+use key_order::compare;
 ghost use Prim.Native.Nat.{_≤_};
 ghost use lib.ListN.{length};
 ghost use Rattle.row.specs.Search.{countBelow, countUpTo, PositionFits, SearchSays, CountSays};

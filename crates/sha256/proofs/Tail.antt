@@ -2,21 +2,27 @@
 use mathlib.Core.Path.{_≡_, refl, sym, ap, ap₂, _∙_}
 use mathlib.Core.List.{List, [], _∷_, _++_, append-assoc}
 use Prim.Native.Nat.{ℕ, zero, suc, _+_, _-_, _*_, _/_, _%_, _^_, _≤_}
-use native.Mathlib.Nat.{zero-add, sub-zero, zero-sub, suc-sub-suc, le-of-suc-le-suc, not-suc-le-zero}
+use native.Mathlib.Nat.{zero-add, le-of-suc-le-suc, not-suc-le-zero}
 use native.Mathlib.Omega.{arith}
 use lib.ListN.{length, take, drop, length-append}
-use lib.Seq.{paste, take-length, take-append-seam, drop-append-add, take-append-add}
-use Rattle.fips180.specs.Hash.{zeros, ending, bytes64}
-
-drop-zeros : (k n : ℕ) → drop k (zeros n) ≡ zeros (n - k)
-drop-zeros zero n = ap (λ (x : ℕ). zeros x) (sym (sub-zero n))
-drop-zeros (suc k) zero = ap (λ (x : ℕ). zeros x) (sym (zero-sub (suc k)))
-drop-zeros (suc k) (suc n) = drop-zeros k n ∙ ap (λ (x : ℕ). zeros x) (sym (suc-sub-suc n k))
+use mir.Syntax.{w8}
+use mir.Val.{Fits}
+use lib.Seq.{paste, length-take-le, take-length, take-append-seam, drop-append-add, take-append-add}
+use Rattle.bytestring.proofs.Tools.{drop-zeros}
+use Rattle.bytestring.specs.Bytes.{zeros, front}
+use Rattle.bytestring.proofs.Lending.{lent, back, onto-place}
+use Rattle.fips180.specs.Hash.{ending, bytes64}
 
 take-zeros : (k n : ℕ) → k ≤ n → take k (zeros n) ≡ zeros k
 take-zeros zero n h = refl
 take-zeros (suc k) zero h = absurd (not-suc-le-zero h)
 take-zeros (suc k) (suc n) h = ap (λ (l : List ℕ). 0 ∷ l) (take-zeros k n (le-of-suc-le-suc h))
+
+-- bytes written at the front of the part that is lent from a place on
+pub pasted : (t src ys : List ℕ) (at : ℕ) → at + length src ≤ length t → ys ≡ front src (lent at t) → back at t ys ≡ paste t at src (length src)
+pasted t src ys at h f =
+    let a : at ≤ length t = omega arith in
+    onto-place t src ys at a f ∙ rw (length-append (take at t) src, length-take-le at t a, take-length src)
 
 -- the bytes of a that are left, then a byte, then zeros
 module _ (rest : List ℕ) where
@@ -61,6 +67,10 @@ filled rest t1 t2 t3 bits n j h2 h e1 e2 e e3 =
     ∙ third rest bits k (omega arith) (ap length e)
     ∙ ap₂ (λ (b : List ℕ) (i : ℕ). marked rest ++ zeros k ++ b ++ zeros i) e f
     ∙ simp append-assoc
+
+-- what is left of a division by 256 is a byte
+pub fits-byte : (x : ℕ) → Fits w8 (x % 256)
+fits-byte x = record { fits = omega arith }
 
 -- eight times n, byte by byte, by shifts of n
 module _ (n : ℕ) where

@@ -6,7 +6,8 @@ use native.Mathlib.Nat.{mul-div-cancel, zero-lt-suc}
 use native.Mathlib.Omega.{arith}
 use lib.ListN.{length, take, drop, length-append, length-replicate, length-drop, take-append-drop}
 use lib.Seq.{take-all, length-take-le}
-use Rattle.fips180.specs.Hash.{zeros, run, ending, bytes64, pad, hash, H0}
+use Rattle.bytestring.specs.Bytes.{zeros}
+use Rattle.fips180.specs.Hash.{afterBlocks, ending, bytes64, pad, hash, H0}
 use Rattle.fips180.specs.declared.State.{State}
 use Rattle.sha256.proofs.Blocks.{front, back}
 
@@ -25,7 +26,7 @@ module _ (l r q j : ℕ) (er : r ≡ l - 64 * q) (eq : q ≡ l / 64) (ej : j ≡
 
 pub whole : (m t : List ℕ) (q j : ℕ) → q ≡ length m / 64 → j ≡ (length (drop (64 * q) m) + 8) / 64 + 1
     → t ≡ ending (drop (64 * q) m) (64 * j - 9 - length (drop (64 * q) m)) (length m) ++ zeros (128 - 64 * j)
-    → run j (run q H0 m) t ≡ hash m
+    → afterBlocks j (afterBlocks q H0 m) t ≡ hash m
 unfolding hash pad
 whole m t q j eq ej et =
     let r : List ℕ = drop (64 * q) m in
@@ -38,18 +39,18 @@ whole m t q j eq ej et =
     let cut : ending m k (length m) ≡ take (64 * q) m ++ T =
     ap (λ (x : List ℕ). x ++ P) (sym (take-append-drop (64 * q) m)) ∙ append-assoc (take (64 * q) m) r P in
     let n : length (ending m k (length m)) / 64 ≡ q + j = ap (λ (x : ℕ). x / 64) (length-ending m k (length m) ∙ blocks (length m) (length r) q j lr eq ej) ∙ mul-div-cancel (q + j) (zero-lt-suc 63) in
-    ap (run j (run q H0 m)) et ∙ front j (run q H0 m) T _ (omega arith)
-    ∙ ap (λ (s : State). run j s T) (sym (front q H0 m P (omega arith)) ∙ ap (run q H0) cut)
+    ap (afterBlocks j (afterBlocks q H0 m)) et ∙ front j (afterBlocks q H0 m) T _ (omega arith)
+    ∙ ap (λ (s : State). afterBlocks j s T) (sym (front q H0 m P (omega arith)) ∙ ap (afterBlocks q H0) cut)
     ∙ sym (back j q H0 (take (64 * q) m) T (length-take-le (64 * q) m (omega arith)))
-    ∙ ap₂ (λ (i : ℕ) (l : List ℕ). run i H0 l) (sym n) (sym cut)
-    ∙ ap (λ (k : ℕ). run (length (ending m k (length m)) / 64) H0 (ending m k (length m))) ek
+    ∙ ap₂ (λ (i : ℕ) (l : List ℕ). afterBlocks i H0 l) (sym n) (sym cut)
+    ∙ ap (λ (k : ℕ). afterBlocks (length (ending m k (length m)) / 64) H0 (ending m k (length m))) ek
 
 -- the same, of the rest as the code takes it
 pub done : (m t : List ℕ) (q j : ℕ) (x : State) → q ≡ length m / 64
     → (let r : List ℕ = take (length m - 64 * q) (drop (64 * q) m) in
-    j ≡ (length r + 8) / 64 + 1 → t ≡ ending r (64 * j - 9 - length r) (length m) ++ zeros (128 - 64 * j) → x ≡ run q H0 m → run j x t ≡ hash m)
+    j ≡ (length r + 8) / 64 + 1 → t ≡ ending r (64 * j - 9 - length r) (length m) ++ zeros (128 - 64 * j) → x ≡ afterBlocks q H0 m → afterBlocks j x t ≡ hash m)
 done m t q j x eq ej et ex =
     let er : take (length m - 64 * q) (drop (64 * q) m) ≡ drop (64 * q) m = take-all (length m - 64 * q) (drop (64 * q) m) (omega (arith, length-drop (64 * q) m)) in
-    ap (λ (x : State). run j x t) ex
+    ap (λ (x : State). afterBlocks j x t) ex
     ∙ whole m t q j eq (ej ∙ ap (λ (r : List ℕ). (length r + 8) / 64 + 1) er)
     (et ∙ ap (λ (r : List ℕ). ending r (64 * j - 9 - length r) (length m) ++ zeros (128 - 64 * j)) er)

@@ -1,20 +1,13 @@
 -- What the digest call answers and writes.
 use Prim.Native.Nat.{ℕ}
-use mathlib.Core.Bool.{Bool, cond}
+use mathlib.Core.Bool.{cond}
 use mathlib.Core.List.{List}
-use lib.ListN.{length}
-use lib.Dec.{leb}
+use Rattle.bytestring.specs.Bytes.{zeros}
 use Rattle.answer.specs.declared.Answer.{Answer}
 use Rattle.answer.specs.declared.Answer.the-variants.{Done, Refused}
 use Rattle.answer.specs.declared.Refusal.the-variants.{TooLong}
-use Rattle.fips180.specs.Hash.{sha256, zeros}
-
--- The longest register and the longest input of digest and layer: 4,194,304 bytes.
-abbrev pub longest : ℕ
-longest = 4194304
-
-abbrev pub fitsCall : List ℕ → Bool
-fitsCall m = leb (length m) longest
+use Rattle.limits.specs.Limits.{fitsCall}
+use Rattle.fips180.specs.Hash.{sha256}
 
 -- Number 1 where the input is too long.
 unfoldable pub digestAnswer : List ℕ → Answer

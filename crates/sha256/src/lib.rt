@@ -6,9 +6,7 @@ ghost use Rattle.fips180.specs.Hash.{hash, words, sha256};
 ghost use Rattle.sha256.specs.Digest.{digestAnswer, digestOutput};
 use answer::Answer;
 use answer::Refusal;
-
-// The longest input of the public calls, in bytes.
-pub const LONGEST: usize = 4194304;
+use limits::LONGEST;
 
 // Public call: the digest of the input, written to out; for an input that is too long, number 1 and zeros.
 pub fn digest(input: &[u8], out: &mut [u8; 32]) -> Answer

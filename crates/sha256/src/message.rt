@@ -1,4 +1,5 @@
 // FIPS 180-4, sections 5.1.1 and 6.2: the blocks of a message and its padding.
+use bytestring::write_bytes;
 use fips180::State;
 use fips180::low;
 use rounds::compress_four;
@@ -8,13 +9,14 @@ ghost use mathlib.Core.List.{_++_};
 ghost use Prim.Native.Nat.{_+_, _-_, _*_, _/_, _≤_};
 ghost use lib.ListN.{length};
 ghost use lib.Seq.{paste};
-ghost use Rattle.fips180.specs.Hash.{H0, run, bytes64, zeros, ending, words, bytesOf};
+ghost use Rattle.bytestring.specs.Bytes.{zeros};
+ghost use Rattle.fips180.specs.Hash.{H0, afterBlocks, bytes64, ending, words, bytesOf};
 ghost use Rattle.fips180.specs.Hash.{hash as hashed};
 
 // The hash value s after the first n blocks of m.
 fn absorb(s: State, m: &[u8], n: usize) -> State
     requires { ⌜ 64 * n ≤ length (now m) ⌝ }
-    ensures { λ r. ⌜ r ≡ run n s (now (m .entry)) ⌝ }
+    ensures { λ r. ⌜ r ≡ afterBlocks n s (now (m .entry)) ⌝ }
 {
     let mut x = s;
     let mut k = 0;
@@ -30,7 +32,7 @@ fn absorb(s: State, m: &[u8], n: usize) -> State
 // The hash value s after the first n fours of blocks of m.
 fn absorb_fours(s: State, m: &[u8], n: usize) -> State
     requires { ⌜ 256 * n ≤ length (now m) ⌝ }
-    ensures { λ r. ⌜ r ≡ run (4 * n) s (now (m .entry)) ⌝ }
+    ensures { λ r. ⌜ r ≡ afterBlocks (4 * n) s (now (m .entry)) ⌝ }
 {
     // A message without a four clears no room for words.
     if n == 0 {
@@ -50,7 +52,7 @@ fn absorb_fours(s: State, m: &[u8], n: usize) -> State
 
 // The hash value after all whole blocks of m.
 fn absorb_whole(m: &[u8]) -> State
-    ensures { λ r. ⌜ r ≡ run (length (now (m .entry)) / 64) H0 (now (m .entry)) ⌝ }
+    ensures { λ r. ⌜ r ≡ afterBlocks (length (now (m .entry)) / 64) H0 (now (m .entry)) ⌝ }
 {
     let f = m.len() / 256;
     let x = absorb_fours(start(), m, f);
@@ -132,15 +134,11 @@ pub fn digest_bytes(s: State) -> [u8; 32]
 }
 
 // src, written into t from at on.
-fn put(t: &mut [u8], at: usize, src: &[u8])
+fn paste_bytes(t: &mut [u8], at: usize, src: &[u8])
     requires { ⌜ at + length (now src) ≤ length (now t) ⌝ }
     ensures { λ _. ⌜ now (t .exit) ≡ paste (now (t .entry)) at (now (src .entry)) (length (now (src .entry))) ⌝ }
 {
-    let mut i = 0;
-    while i < src.len() {
-        t[at + i] = src[i];
-        i += 1;
-    }
+    write_bytes(&mut t[at..], src);
 }
 
 // In t, which has zeros: the last j blocks of a padded message of n bytes, whose last bytes are rest.
@@ -148,13 +146,13 @@ fn last_blocks(t: &mut [u8], rest: &[u8], n: u64, j: usize)
     requires { ⌜ (now t ≡ zeros 128) × (j ≤ 2) × (length (now rest) + 9 ≤ 64 * j) ⌝ }
     ensures { λ _. ⌜ now (t .exit) ≡ ending (now (rest .entry)) (64 * j - 9 - length (now (rest .entry))) n ++ zeros (128 - 64 * j) ⌝ }
 {
-    put(t, 0, rest);
+    paste_bytes(t, 0, rest);
     let mark = [0x80u8; 1];
     let r = rest.len();
-    put(t, r, &mark);
+    paste_bytes(t, r, &mark);
     let bits = length_bytes(n);
     let e = 64 * j - 8;
-    put(t, e, &bits);
+    paste_bytes(t, e, &bits);
 }
 
 // The eight words of a message's digest.

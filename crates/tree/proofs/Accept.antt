@@ -8,22 +8,23 @@ use native.Mathlib.Omega.{arith}
 use lib.ListN.{length, length-append, length-drop}
 use lib.Dec.{eqb, leb}
 use borrow.Author.Tests.{leb-true, le-leb, eqb-true, eq-eqb}
+use Rattle.limits.specs.Limits.{longest, deepest, most}
+use Rattle.bytestring.proofs.Equal.{equal-true, equal-refl}
+use Rattle.bytestring.proofs.Tools.{cond-inv, and-inv, and-both, All, all-append, all-split}
+use Rattle.bytestring.specs.Bytes.{Bytes}
 use Rattle.answer.specs.declared.Refusal.{Refusal}
-use Rattle.fips180.specs.Bytes.{Bytes}
 use Rattle.fips180.specs.Hash.{sha256}
 use Rattle.fips180.proofs.Laws.{length-sha256}
-use Rattle.sha256.specs.Digest.{longest}
 use Rattle.key.specs.Key.{shared}
 use Rattle.key.proofs.Laws.{lawful-length, shared-le-right, layer-le}
 use Rattle.page.specs.Reading.{Read, read, endsEarly, departs}
-use Rattle.page.specs.Page.{isValue}
-use Rattle.page.proofs.Tools.{cond-inv, and-inv, and-both, All, all-append, all-split}
+use Rattle.value.specs.Value.{isValue}
 use Rattle.page.proofs.Pages.{GoodGap, GoodEntry}
 use Rattle.tree.specs.Tree.{Page, page, Gap, empty, under, Entries, end, entry, items, itemsUnder, itemsFrom, topLayer}
 use Rattle.tree.specs.Record.{Record, Spelt, recordOf, keyed, keyedUnder, keyedFrom, spelt, speltUnder, speltFrom, records, placed}
-use Rattle.tree.specs.Table.{SpeltTree, linkOf, rawEntries, rawPage, bytesOfPage, table, digestOf, treeOfSet, tableOf, readTree, deepest}
-use Rattle.tree.specs.Judge.{due, isNone, most, prefixesRight, prefixesRightUnder, prefixesRightFrom, allLawful, rising, rightTree, digestsRight, digestsRightUnder, digestsRightFrom, tests, refused, accepted, settled, judgeRead, judge}
-use Rattle.tree.proofs.Tests.{equal-true, equal-refl, AllTests, due-none, none-due, LawfulKey, RightValue, lawful-all, all-lawful, Fitting}
+use Rattle.tree.specs.Table.{SpeltTree, linkOf, rawEntries, rawPage, bytesOfPage, table, digestOf, treeOfSet, tableOf, readTree}
+use Rattle.tree.specs.Judge.{due, isNone, prefixesRight, prefixesRightUnder, prefixesRightFrom, allLawful, rising, rightTree, digestsRight, digestsRightUnder, digestsRightFrom, tests, refused, accepted, settled, judgeRead, judge}
+use Rattle.tree.proofs.Tests.{AllTests, due-none, none-due, LawfulKey, RightValue, lawful-all, all-lawful, Fitting}
 use Rattle.tree.proofs.BuildLaws.{Layered, LayeredUnder, LayeredFrom, treeOf-layered, Labelled, LabelledUnder, LabelledFrom, labelled-treeOf}
 use Rattle.tree.proofs.Spelling.{keyed-spelt, prefixes-spelt, spelt-keyed}
 use Rattle.tree.proofs.Shape.{layerOfRecord, right-tree, records-tree, tree-right}

@@ -6,7 +6,7 @@ use native.Mathlib.Omega.{arith}
 use lib.Dec.{eqb}
 use borrow.Author.Tests.{eqb-true, eqb-false, eq-eqb, ne-eqb}
 use borrow.Table.Steps.{cases}
-use Rattle.page.proofs.Tools.{All, all-append, all-weaken}
+use Rattle.bytestring.proofs.Tools.{All, all-append, all-weaken}
 use Rattle.tree.specs.Tree.{Page, page, Gap, empty, under, Entries, end, entry, items, itemsUnder, itemsFrom, map as mapTree, mapUnder, mapFrom, Placed, topLayer, Parted, part, entriesOf, pageOf, gapOf, build, treeOf}
 use Rattle.tree.proofs.Maps.{items-map, unlabelled, unlabelledUnder, unlabelledFrom}
 

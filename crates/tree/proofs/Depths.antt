@@ -9,7 +9,7 @@ use native.Mathlib.Omega.{arith}
 use lib.Dec.{eqb}
 use borrow.Author.Tests.{eqb-true, eqb-false, not-true}
 use borrow.Table.Steps.{cases}
-use Rattle.page.proofs.Tools.{and-inv, All, all-append, all-split}
+use Rattle.bytestring.proofs.Tools.{and-inv, All, all-append, all-split}
 use Rattle.tree.specs.Tree.{Page, page, Gap, empty, under, Entries, end, entry, items, itemsUnder, itemsFrom, topLayer}
 use Rattle.tree.proofs.Lists.{Some, append-none}
 use Rattle.tree.proofs.BuildLaws.{Layered, LayeredUnder, LayeredFrom, row}

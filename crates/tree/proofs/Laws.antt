@@ -1,9 +1,10 @@
 -- What the crates above use of the tree's definitions.
 
 -- some element of a list
+pub use Rattle.bytestring.proofs.Equal.{equal-true, equal-refl, equal-cases}
 pub use Rattle.tree.proofs.Lists.{Some}
 -- the test of equality, the first number that is due, and the sets that fit
-pub use Rattle.tree.proofs.Tests.{equal-true, equal-refl, equal-cases, AllTests, due-none, none-due, LawfulKey, RightValue, lawful-all, all-lawful, values-all, all-values, Fitting, fitting, fitting-fits}
+pub use Rattle.tree.proofs.Tests.{AllTests, due-none, none-due, LawfulKey, RightValue, lawful-all, all-lawful, values-all, all-values, Fitting, fitting, fitting-fits}
 -- other items or labels in the same tree; a tree is determined by its shape and its items
 pub use Rattle.tree.proofs.Maps.{items-map, pages-map, map-map-tree, unlabelled, shape, determined}
 -- the tree of a row has the row's items; with other items at the same layers it has the same shape

@@ -12,5 +12,4 @@ pub mod TableBytes
 pub mod Growing
 pub mod PlaceLaws
 pub mod Laws
-pub mod Rows
 pub mod Examples

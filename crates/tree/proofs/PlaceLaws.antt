@@ -5,15 +5,16 @@ use mathlib.Core.List.{List, [], _∷_, _++_, append-assoc, append-nil}
 use native.Mathlib.Omega.{arith}
 use lib.ListN.{length, take, drop, length-append}
 use lib.Seq.{take-at, drop-append-seam, drop-drop}
-use Rattle.fips180.specs.Bytes.{Bytes}
+use Rattle.limits.specs.Limits.{deepest}
+use Rattle.bytestring.proofs.Tools.{All}
+use Rattle.bytestring.specs.Bytes.{Bytes}
 use Rattle.page.specs.Reading.{concat}
 use Rattle.page.specs.Number.{plainNumber, byteString, array, numberBytes}
 use Rattle.page.specs.Page.{linkHead, linkBytes, gapBytes, RawEntry, entryBytes, pageBytes}
-use Rattle.page.proofs.Tools.{All}
 use Rattle.page.proofs.Pages.{GoodEntry}
 use Rattle.tree.specs.Tree.{page, Gap, empty, under, Entries, end, entry, items, itemsUnder, itemsFrom}
 use Rattle.tree.specs.Record.{Record, Spelt, recordOf, keyed, keyedUnder, keyedFrom, records}
-use Rattle.tree.specs.Table.{SpeltTree, linkOf, rawEntries, rawPage, bytesOfPage, table, tableUnder, tableFrom, tableOf, deepest}
+use Rattle.tree.specs.Table.{SpeltTree, linkOf, rawEntries, rawPage, bytesOfPage, table, tableUnder, tableFrom, tableOf}
 use Rattle.tree.specs.Judge.{accepted, judge}
 use Rattle.tree.specs.Place.{lengthOfEntry, firstEntry, places, placesUnder, placesFrom}
 use Rattle.tree.proofs.Tables.{AllUnder, AllFrom, Good}

@@ -4,13 +4,14 @@ use mathlib.Core.Path.{_≡_, refl, sym, ap, ap₂, _∙_}
 use mathlib.Core.Bool.{true, false≢true}
 use mathlib.Core.List.{List, [], map, map-map, map-id}
 use native.Mathlib.Omega.{arith}
+use Rattle.bytestring.proofs.Equal.{equal-true, equal-refl}
+use Rattle.bytestring.specs.Bytes.{equal}
+use Rattle.bytestring.proofs.Tools.{and-inv, All}
 use Rattle.key.specs.Layer.{layerOf}
-use Rattle.page.proofs.Tools.{and-inv, All}
 use Rattle.tree.specs.Tree.{Page, page, Gap, empty, under, Entries, end, entry, map as mapTree, Placed, topLayer, treeOf}
 use Rattle.tree.specs.Record.{Record, Spelt, recordOf, keyed, keyedUnder, keyedFrom, spelt, records, placed, placedKey}
-use Rattle.tree.specs.Judge.{equal, same, sameUnder, sameFrom, keysOf, rightTree}
+use Rattle.tree.specs.Judge.{same, sameUnder, sameFrom, keysOf, rightTree}
 use Rattle.tree.proofs.Lists.{Some, map-none, none-or-some}
-use Rattle.tree.proofs.Tests.{equal-true, equal-refl}
 use Rattle.tree.proofs.Maps.{unlabelled, unlabelledUnder, unlabelledFrom, map-map-tree}
 use Rattle.tree.proofs.BuildLaws.{items-treeOf, Layered, Labelled, layered-build, unlabelled-treeOf, onItem, top-map, map-treeOf, map-layered, treeOf-layered, layered-shape}
 use Rattle.tree.proofs.Spelling.{keyed-spelt}

@@ -8,11 +8,11 @@ use native.Mathlib.Omega.{arith}
 use lib.ListN.{length, length-append}
 use lib.Dec.{ltb}
 use borrow.Table.Steps.{cases}
-use Rattle.fips180.specs.Bytes.{Bytes}
+use Rattle.bytestring.proofs.Tools.{All}
+use Rattle.bytestring.specs.Bytes.{Bytes}
 use Rattle.page.specs.Reading.{read, concat}
 use Rattle.page.specs.Number.{numberBytes, byteString, plainNumber}
 use Rattle.page.specs.Page.{linkHead, linkBytes, gapBytes, RawEntry, entryBytes, RawPage, pageBytes}
-use Rattle.page.proofs.Tools.{All}
 use Rattle.page.proofs.Pages.{GoodEntry}
 use Rattle.tree.specs.Tree.{page, Gap, empty, under, Entries, end, entry, items, itemsUnder, itemsFrom}
 use Rattle.tree.specs.Record.{Spelt, recordOf, keyed, keyedUnder, keyedFrom, records}

@@ -7,9 +7,9 @@ use lib.Dec.{eqb}
 use lib.ListN.{length, take, drop}
 use lib.Seq.{length-take-le, drop-at}
 use borrow.Author.Tests.{eqb-true, eq-eqb}
+use Rattle.bytestring.proofs.Tools.{and-inv}
 use Rattle.key.specs.Key.{shared}
 use Rattle.key.proofs.Laws.{shared-rebuilt, shared-le-left}
-use Rattle.page.proofs.Tools.{and-inv}
 use Rattle.tree.specs.Tree.{Page, page, Gap, empty, under, Entries, end, entry}
 use Rattle.tree.specs.Record.{Record, Spelt, recordOf, keyed, keyedUnder, keyedFrom, spelt, speltUnder, speltFrom}
 use Rattle.tree.specs.Judge.{prefixesRight, prefixesRightUnder, prefixesRightFrom}

@@ -1,16 +1,16 @@
 -- The table of a set that fits, with values that are strings of bytes, is a string of bytes.
 use Prim.Native.Nat.{ℕ, zero, suc}
-use mathlib.Core.Path.{_≡_}
 use mathlib.Core.List.{List, [], _∷_, _++_}
-use Rattle.fips180.specs.Bytes.{Bytes}
+use Rattle.limits.specs.Limits.{deepest}
+use Rattle.bytestring.proofs.Tools.{All, all-split, bytes-append, bytes-drop}
+use Rattle.bytestring.specs.Bytes.{Bytes}
 use Rattle.fips180.proofs.Laws.{bytes-sha256}
 use Rattle.key.specs.Key.{shared}
 use Rattle.key.proofs.Laws.{lawful-bytes}
-use Rattle.page.proofs.Tools.{All, all-split, bytes-append, bytes-drop}
 use Rattle.page.proofs.AllBytes.{ByteGap, ByteEntry, page-bytes}
 use Rattle.tree.specs.Tree.{Page, page, Gap, empty, under, Entries, end, entry, items, itemsUnder, itemsFrom}
 use Rattle.tree.specs.Record.{Record, spelt, speltUnder, speltFrom}
-use Rattle.tree.specs.Table.{linkOf, rawEntries, rawPage, bytesOfPage, table, tableUnder, tableFrom, digestOf, treeOfSet, tableOf, deepest}
+use Rattle.tree.specs.Table.{linkOf, rawEntries, rawPage, bytesOfPage, table, tableUnder, tableFrom, digestOf, treeOfSet, tableOf}
 use Rattle.tree.proofs.BuildLaws.{Labelled, LabelledUnder, LabelledFrom}
 use Rattle.tree.proofs.Tests.{LawfulKey, Fitting}
 use Rattle.tree.proofs.Tables.{AllUnder, AllFrom, Good}

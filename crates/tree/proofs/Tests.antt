@@ -1,39 +1,19 @@
 -- Laws of the tests: equal byte strings, the first number that is due, and the sets that fit.
-use Prim.Native.Nat.{ℕ, _≤_}
-use mathlib.Core.Path.{_≡_, refl, sym, ap₂, _∙_}
-use mathlib.Core.Bool.{true, false, false≢true}
+use Prim.Native.Nat.{_≤_}
+use mathlib.Core.Path.{_≡_, refl}
+use mathlib.Core.Bool.{true}
 use mathlib.Core.Option.{none, Option·some-ne-none}
 use mathlib.Core.List.{List, [], _∷_}
 use lib.ListN.{length}
-use lib.Dec.{eqb, leb}
-use borrow.Author.Tests.{eqb-true, eq-eqb, leb-true, le-leb}
-use borrow.Table.Steps.{cases}
-use Rattle.sha256.specs.Digest.{longest}
+use lib.Dec.{leb}
+use borrow.Author.Tests.{leb-true, le-leb}
+use Rattle.limits.specs.Limits.{longest, most}
+use Rattle.bytestring.proofs.Tools.{cond-inv, and-inv, and-both, All}
 use Rattle.key.specs.Key.{lawful}
-use Rattle.page.specs.Page.{isValue}
-use Rattle.page.proofs.Tools.{cond-inv, and-inv, and-both, All}
+use Rattle.value.specs.Value.{isValue}
 use Rattle.tree.specs.Record.{Record}
 use Rattle.tree.specs.Table.{tableOf}
-use Rattle.tree.specs.Judge.{Test, due, equal, most, allLawful, rising, allValues, fits}
-
--- ---- the test of equality
-pub equal-true : (s t : List ℕ) → equal s t ≡ true → s ≡ t
-unfolding equal
-equal-true [] [] h = refl
-equal-true [] (b ∷ t) h = absurd (false≢true h)
-equal-true (a ∷ s) [] h = absurd (false≢true h)
-equal-true (a ∷ s) (b ∷ t) h =
-    let k = and-inv (eqb a b) h in
-    ap₂ (λ (x : ℕ) (l : List ℕ). x ∷ l) (eqb-true a b (k .0)) (equal-true s t (k .1))
-
-pub equal-refl : (s : List ℕ) → equal s s ≡ true
-unfolding equal
-equal-refl [] = refl
-equal-refl (a ∷ s) = rw (eq-eqb a a refl, equal-refl s)
-
-pub equal-cases {κ} : {C : Type κ} (s t : List ℕ) → (equal s t ≡ true → s ≡ t → C) → (equal s t ≡ false → (s ≡ t → ⊥) → C) → C
-equal-cases s t f g =
-    cases (equal s t) (λ e. f e (equal-true s t e)) (λ e. g e (λ q. false≢true (sym e ∙ rw q (equal-refl t))))
+use Rattle.tree.specs.Judge.{Test, due, allLawful, rising, allValues, fits}
 
 -- ---- no number is due where every test holds, and only there
 abbrev pub AllTests : List Test → Type 0

@@ -5,16 +5,17 @@ use mathlib.Core.Option.{Option, none, some}
 use mathlib.Core.List.{List, [], _∷_, map}
 use lib.ListN.{length}
 use lib.Dec.{eqb, leb}
+use Rattle.limits.specs.Limits.{longest, most, deepest}
 use Rattle.answer.specs.declared.Refusal.{Refusal}
 use Rattle.answer.specs.declared.Refusal.the-variants.{TooLong, EndsEarly, Departs, BytesFollow, TooManyRecords, WrongPrefix, UnlawfulKey, KeysNotRising, WrongTree, WrongDigest}
+use Rattle.bytestring.specs.Bytes.{equal}
 use Rattle.fips180.specs.Hash.{sha256}
-use Rattle.sha256.specs.Digest.{longest}
 use Rattle.key.specs.Key.{lawful, less, shared}
 use Rattle.page.specs.Reading.{Read, read, endsEarly, departs}
-use Rattle.page.specs.Page.{isValue}
+use Rattle.value.specs.Value.{isValue}
 use Rattle.tree.specs.Tree.{Page, page, Gap, empty, under, Entries, end, entry, map as mapTree, treeOf}
 use Rattle.tree.specs.Record.{Record, Spelt, recordOf, keyed, records, placedKey}
-use Rattle.tree.specs.Table.{SpeltTree, bytesOfPage, tableOf, readTree, deepest}
+use Rattle.tree.specs.Table.{SpeltTree, bytesOfPage, tableOf, readTree}
 
 -- A refusal and the test that avoids it. Tests stand in the order of their numbers; the first that fails decides.
 abbrev pub Test : Type 0
@@ -29,16 +30,6 @@ due (t ∷ ts) =
 unfoldable pub isNone : {A : Type 0} → List A → Bool
 isNone [] = true
 isNone (a ∷ l) = false
-
-unfoldable pub equal : List ℕ → List ℕ → Bool
-equal [] [] = true
-equal [] (b ∷ t) = false
-equal (a ∷ s) [] = false
-equal (a ∷ s) (b ∷ t) = eqb a b && equal s t
-
--- The most records of a register.
-abbrev pub most : ℕ
-most = 4096
 
 -- 6: each prefix length is the count of bytes shared with the key before in the page.
 unfoldable mutual
@@ -133,7 +124,7 @@ judgeRead (read t rest) = settled (due (tests t rest)) t
 unfoldable pub judge : List ℕ → Verdict
 judge s = cond (leb (length s) longest) (judgeRead (readTree deepest s)) (refused TooLong)
 
--- Each value has 32 bytes.
+-- Each value is as long as a value is.
 unfoldable pub allValues : List Record → Bool
 allValues [] = true
 allValues (r ∷ rs) = isValue (r .val) && allValues rs

@@ -3,4 +3,3 @@ pub mod Record
 pub mod Table
 pub mod Judge
 pub mod Place
-pub mod Rows

@@ -2,13 +2,14 @@
 use Prim.Native.Nat.{ℕ, _+_, _-_}
 use mathlib.Core.List.{List, [], _∷_, _++_}
 use lib.ListN.{length}
+use Rattle.value.specs.Value.{valueLength}
 use Rattle.page.specs.Number.{array, numberBytes}
 use Rattle.page.specs.Page.{entryBytes}
 use Rattle.tree.specs.Tree.{page, Gap, empty, under, Entries, end, entry}
 use Rattle.tree.specs.Record.{Spelt}
 use Rattle.tree.specs.Table.{SpeltTree, linkOf, rawEntries, bytesOfPage, tableUnder}
 
--- An entry's bytes end with its value's 32.
+-- An entry's bytes end with its value's.
 abbrev pub lengthOfEntry : Spelt → Gap Spelt (List ℕ) → ℕ
 lengthOfEntry e g = length (entryBytes (record { shares = e .shares; remainder = e .remainder; after = linkOf g; val = e .val }))
 
@@ -31,5 +32,5 @@ unfoldable mutual
   pub placesFrom : ℕ → ℕ → Entries Spelt (List ℕ) → List ℕ
   placesFrom at below end = []
   placesFrom at below (entry e g es) =
-      (at + lengthOfEntry e g - 32)
+      (at + lengthOfEntry e g - valueLength)
       ∷ (placesUnder below g ++ placesFrom (at + lengthOfEntry e g) (below + length (tableUnder g)) es)

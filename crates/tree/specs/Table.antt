@@ -74,7 +74,3 @@ readTree (suc depth) s =
     andThen (pageAt s) (λ p s₁.
     andThen (readUnder (readTree depth) (p .left) s₁) (λ g s₂.
     andThen (readFrom (readTree depth) (p .entries) s₂) (λ es s₃. read (page g es) s₃)))
-
--- From the root down, itself included, at most 129 pages.
-abbrev pub deepest : ℕ
-deepest = 129

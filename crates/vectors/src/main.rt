@@ -22,7 +22,7 @@ fn print_digest(message: &[u8]) {
 }
 
 fn print_layer(text: &[u8]) {
-    if let Answer::Done(layer) = key::layer(text) {
+    if let Answer::Done(layer) = key_calls::layer(text) {
         io::print_decimal(STDOUT_FILENO, layer as u64);
         io::write_all(STDOUT_FILENO, b"\n");
     }

@@ -1,5 +1,5 @@
 -- What the writer of a gap says, and what a caller makes of it.
-use Prim.Native.Nat.{ℕ, zero, suc, _+_, _-_, _≤_, _<_}
+use Prim.Native.Nat.{ℕ, zero, suc, _-_, _≤_, _<_}
 use mathlib.Core.Path.{_≡_, refl, sym, ap, _∙_}
 use mathlib.Core.Bool.{Bool, true, false, not, false≢true}
 use mathlib.Core.Option.{some}
@@ -9,25 +9,27 @@ use borrow.Author.Tests.{not-true, not-false, le-leb, lt-leb, leb-true, leb-fals
 use borrow.Table.Steps.{cases}
 use lib.ListN.{length, take, drop}
 use lib.Seq.{take-at}
-use Rattle.fips180.specs.Hash.{sha256, zeros}
+use Rattle.bytestring.specs.Bytes.{zeros}
+use Rattle.fips180.specs.Hash.{sha256}
 use Rattle.fips180.proofs.Laws.{length-sha256}
 use Rattle.tree.specs.Tree.{Page, Gap, empty, under, Placed, gapOf, build}
 use Rattle.tree.specs.Record.{Record, spelt, speltUnder}
 use Rattle.tree.specs.Table.{linkOf, bytesOfPage, table, tableUnder, digestOf}
-use Rattle.writer.specs.Build.{span, gapFor}
-use Rattle.writer.specs.Wrote.{Done, Written, belowOf, GapDone, GapWritten, hasPage}
+use Rattle.layout.specs.Build.{span, gapFor}
+use Rattle.layout.specs.Layout.{hasPage}
+use Rattle.writer.specs.Wrote.{TableDone, Written, belowOf, GapDone, GapWritten}
 use Rattle.writer.specs.declared.pages.Wrote.{Wrote}
 use Rattle.writer.specs.declared.pages.Below.{Below}
-use Rattle.writer.proofs.Ranges.{tableIn, behindPage, table-front, table-longer}
+use Rattle.writer.proofs.Tables.{tableIn, behindPage, table-front, table-longer}
 
 -- ---- no room
 pub no-room : (t : Page Record (List ℕ)) (o after : List ℕ) (r : Wrote) → length o < length (table (spelt t)) → r .room ≡ false → Written t o after r
-no-room t o after r h e = record { room = e ∙ sym (lt-leb (length (table (spelt t))) (length o) h); done = rw e tt }
+no-room t o after r h e = record { room = e ∙ sym (lt-leb (length (table (spelt t))) (length o) h); done = λ h. absurd (false≢true (sym e ∙ h)) }
 
 -- ---- a table was written
 module _ {t : Page Record (List ℕ)} {o after : List ℕ} {r : Wrote} (w : Written t o after r) (e : r .room ≡ true) where
-  pub table-done : Done t o after (r .len) (r .own)
-  table-done = rw e at (w .done)
+  pub table-done : TableDone t o after (r .len) (r .own)
+  table-done = w .done e
 
   pub table-fits : length (table (spelt t)) ≤ length o
   table-fits = leb-true (length (table (spelt t))) (length o) (sym (w .room) ∙ e)
@@ -75,18 +77,18 @@ some-layer (suc n) m e = omega arith
 
 nothing-written : (g : Gap Record (List ℕ)) (o : List ℕ) → g ≡ empty → GapWritten g o o (record { room = true; linked = false; len = 0; digest = zeros 32 })
 unfolding tableUnder speltUnder linkOf
-nothing-written g o e = rw e (record { room = sym (le-leb 0 (length o) (omega arith)); done = record { wrote = refl; size = refl; link = refl; whole = refl } })
+nothing-written g o e = rw e (record { room = sym (le-leb 0 (length o) (omega arith)); done = λ _. record { wrote = refl; size = refl; link = refl; whole = refl } })
 
 module _ {t : Page Record (List ℕ)} {o after : List ℕ} {r : Wrote} (w : Written t o after r) where
   page-refused : r .room ≡ false → GapWritten (under (digestOf t) t) o after (belowOf r after)
   unfolding tableUnder speltUnder belowOf
-  page-refused e = rw e (record { room = sym e ∙ w .room; done = tt })
+  page-refused e = rw e (record { room = sym e ∙ w .room; done = λ h. absurd (false≢true h) })
 
   page-linked : r .room ≡ true → GapWritten (under (digestOf t) t) o after (belowOf r after)
   unfolding tableUnder speltUnder linkOf digestOf belowOf
   page-linked e = rw e (record {
     room = sym e ∙ w .room;
-    done = record {
+    done = λ _. record {
       wrote = table-done w e .wrote;
       size = table-done w e .size;
       link = ap (λ (l : List ℕ). some (sha256 l)) (first-page w e);
@@ -111,7 +113,7 @@ module _ {g : Gap Record (List ℕ)} {o after : List ℕ} {b : Below} (w : GapWr
   gap-lacks e = leb-false (length (tableIn g)) (length o) (sym (w .room) ∙ not-true (b .room) e)
 
   pub gap-done : not (b .room) ≡ false → GapDone g o after (b .len) (b .linked) (b .digest)
-  gap-done e = rw (not-false (b .room) e) at (w .done)
+  gap-done e = w .done (not-false (b .room) e)
 
   pub gap-fits : not (b .room) ≡ false → length (tableIn g) ≤ length o
   gap-fits e = leb-true (length (tableIn g)) (length o) (sym (w .room) ∙ not-false (b .room) e)

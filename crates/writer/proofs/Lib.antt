@@ -1,11 +1,7 @@
-pub mod Ranges
-pub mod Runs
-pub mod Clearing
-pub mod Holding
-pub mod Measures
-pub mod Turns
-pub mod Labels
+pub mod Falling
+pub mod Tables
+pub mod Overwriting
 pub mod Gaps
-pub mod Sites
-pub mod Leaves
+pub mod Turns
+pub mod Composing
 pub mod Whole

@@ -1,262 +1,303 @@
--- The output along the loop that writes a page.
+-- The output along the loop that writes a page's entries and the tables below them.
 use Prim.Native.Nat.{ℕ, _+_, _-_, _≤_, _<_}
 use mathlib.Core.Path.{_≡_, refl, sym, ap, _∙_}
-use mathlib.Core.Bool.{Bool, true}
-use mathlib.Core.Option.{Option}
+use mathlib.Core.Bool.{Bool, true, false, not, _&&_, false≢true}
 use mathlib.Core.List.{List, [], _++_, append-assoc, append-nil}
 use native.Mathlib.Omega.{arith}
-use borrow.Author.Tests.{le-leb}
-use lib.ListN.{length, take, drop, length-append, length-drop, take-append-drop}
-use lib.Seq.{length-take-le, drop-at, drop-drop, drop-append-le}
+use borrow.Author.Tests.{not-true, not-false, le-leb, lt-leb, leb-true, leb-false}
+use borrow.Table.Steps.{cases}
+use lib.Dec.{leb}
+use lib.ListN.{length, take, drop, getD, replicate, length-append, length-drop}
+use lib.Seq.{length-take-le}
+use Rattle.word.specs.Word.{layerIn}
+use Rattle.bytestring.proofs.Tools.{and-inv, and-both}
+use Rattle.bytestring.proofs.Lending.{lent, back}
 use Rattle.page.specs.Page.{entryBytes}
-use Rattle.page.specs.Front.{front, linkIf, gapLength, entryAfter, pageStartBytes, pageEndBytes}
-use Rattle.page.proofs.Lending.{lent, back, lent-is, back-is}
-use Rattle.page.proofs.Sizes.{length-page-end}
-use Rattle.tree.specs.Tree.{Page, Gap, Entries, Placed, build}
-use Rattle.tree.specs.Record.{Record, spelt}
-use Rattle.tree.specs.Table.{bytesOfPage, table, digestOf}
-use Rattle.writer.specs.Build.{span, gapFor}
-use Rattle.writer.specs.Wrote.{Written}
-use Rattle.writer.proofs.Ranges.{entriesAt, bytesOf, countOf, tablesOf, linkTo, tableIn, Cuts, no-bytes, no-tables, bytes-turn, tables-turn, bytes-are, table-is, page-length, table-length}
+use Rattle.page_writer.specs.Front.{linkIf, entryLength, entryAfter}
+use Rattle.page_writer.proofs.Sizes.{length-entry}
+use Rattle.tree.specs.Tree.{Gap, Entries, Placed}
+use Rattle.tree.specs.Record.{Record}
+use Rattle.row.specs.Row.{recordOfWord, Stands}
+use Rattle.row.specs.Memory.{Remembers}
+use Rattle.layout.specs.Build.{recordIn, entriesAt, entriesBytes}
+use Rattle.layout.specs.Entry.{Holding, bytesAfter, EntryTried}
+use Rattle.layout.specs.Layout.{Ready, Run}
+use Rattle.layout.specs.declared.records.Added.{Added}
+use Rattle.layout.proofs.Ranges.{linkTo, record-item, record-layer, cuts, no-bytes, bytes-turn}
+use Rattle.layout.proofs.Holding.{val-length}
+use Rattle.writer.specs.Wrote.{gapAt, tablesOf, GapDone, GapWritten, overwritten, entriesFit, EntriesWritten}
+use Rattle.writer.specs.declared.pages.Below.{Below}
+use Rattle.writer.proofs.Tables.{tableIn, no-tables, tables-turn}
+use Rattle.writer.proofs.Overwriting.{part-length, over-nothing, over-part, over-length, over-more, over-apart}
 
--- ---- parts that are lent
-pub lent-length : (at : ℕ) (o : List ℕ) → length (lent at o) ≡ length o - at
-lent-length at o = length-take-le (length o - at) (drop at o) (omega (arith, length-drop at o))
+-- ---- the memory goes on
+pub ready-within : {s u row keys notes : List ℕ} {lo hi : ℕ} → Ready s u row keys notes lo hi
+    → {keys′ notes′ : List ℕ} (a b : ℕ) → Remembers s u keys′ notes′ → length notes′ ≡ 128 → a ≤ b → b ≤ hi → Ready s u row keys′ notes′ a b
+ready-within r a b m e h k = record {
+  range = record {
+    few = omega (arith, r .range .few);
+    room = omega (arith, r .range .room);
+    first = r .range .first;
+    second = r .range .second;
+    stands = λ i l. r .range .stands i (omega arith);
+  };
+  order = h;
+  memory = m;
+  slots = e;
+}
 
-pub back-length : (at : ℕ) (o ys : List ℕ) → at ≤ length o → length ys ≡ length (lent at o) → length (back at o ys) ≡ length o
-back-length at o ys h e =
-    ap length (back-is o (take at o) (drop at o) at (sym (take-append-drop at o)) (length-take-le at o h) ys) ∙ length-append (take at o) ys
-    ∙ omega (arith, length-take-le at o h, lent-length at o)
+pub still-holding : {s u keys notes previous keys′ notes′ : List ℕ} {held : ℕ} → Holding s u keys notes previous held → Remembers s u keys′ notes′ → length notes′ ≡ length notes
+    → Holding s u keys′ notes′ previous held
+still-holding h m e = record { memory = m; slots = e ∙ h .slots; room = h .room; fits = h .fits }
 
--- the start of a page and its entries
-abbrev pub fromStart : Entries Record (List ℕ) → List ℕ
-fromStart es = pageStartBytes (countOf [] es) ++ bytesOf [] es
+-- ---- along the loop: B is written of the entries, and T of the tables
+pub record Going (s u row : List ℕ) (n first hi start limit behind : ℕ) (o keys notes out : List ℕ) (at tail : ℕ) (previous : List ℕ) (held i : ℕ) : Type 0 where
+  pub holding : Holding s u keys notes previous held
+  pub most : i ≤ hi
+  pub here : i < hi → layerIn (getD row i 0) ≡ n
+  pub B : List ℕ
+  pub T : List ℕ
+  pub is : out ≡ overwritten start B (overwritten behind T o)
+  pub place : at ≡ start + length B
+  pub end : tail ≡ behind + length T
+  pub bytes : B ++ entriesBytes (take held previous) (entriesAt n (recordIn s u row) i hi) ≡ entriesBytes [] (entriesAt n (recordIn s u row) first hi)
+  pub tables : T ++ tablesOf (take held previous) (entriesAt n (recordIn s u row) i hi) ≡ tablesOf [] (entriesAt n (recordIn s u row) first hi)
+  pub inside : at ≤ limit
+  pub apart : limit ≤ behind
+  pub fits : tail ≤ length o
 
--- ---- what is written of a page: A, its bytes to before the i-th record; the rest of the output is behind it
-pub record Laid (f : ℕ → Placed Record) (n first hi : ℕ) (out rest : List ℕ) (at i : ℕ) (before : List ℕ) : Type 0 where
-  pub A : List ℕ
-  pub is : out ≡ A ++ rest
-  pub lenA : length A ≡ at
-  pub written : A ++ bytesOf before (entriesAt n f i hi) ≡ fromStart (entriesAt n f first hi)
+pub starts : {s u row keys notes : List ℕ} {n first hi start limit behind : ℕ} {o : List ℕ} → Ready s u row keys notes first hi → (first < hi → layerIn (getD row first 0) ≡ n)
+    → start ≤ limit → limit ≤ behind → behind ≤ length o → Going s u row n first hi start limit behind o keys notes o start behind (replicate 256 0) 0 first
+starts {start = start} {behind = behind} {o} r e h k l = record {
+  holding = record { memory = r .memory; slots = r .slots; room = refl; fits = omega arith };
+  most = r .order;
+  here = e;
+  B = [];
+  T = [];
+  is = sym (rw (over-nothing behind o l) (over-nothing start o (omega arith)));
+  place = omega arith;
+  end = omega arith;
+  bytes = refl;
+  tables = refl;
+  inside = h;
+  apart = k;
+  fits = l;
+}
 
 nil-end : (a b r : List ℕ) → b ≡ [] → a ++ b ≡ r → a ≡ r
 nil-end a b r e q = sym (append-nil a) ∙ ap (λ (l : List ℕ). a ++ l) (sym e) ∙ q
 
-module _ {f : ℕ → Placed Record} {n first hi : ℕ} {out rest : List ℕ} {at i : ℕ} {before : List ℕ} (l : Laid f n first hi out rest at i before) where
-  pub laid-lent : lent at out ≡ rest
-  laid-lent = lent-is out (l .A) rest at (l .is) (l .lenA)
+and-false : (a : Bool) → (a && false) ≡ false
+and-false true = refl
+and-false false = refl
 
-  pub laid-back : (zs : List ℕ) → back at out zs ≡ l .A ++ zs
-  laid-back = back-is out (l .A) rest at (l .is) (l .lenA)
+module _ {s u row : List ℕ} {n first hi start limit behind : ℕ} {o keys notes out : List ℕ} {at tail : ℕ} {previous : List ℕ} {held i : ℕ}
+    (g : Going s u row n first hi start limit behind o keys notes out at tail previous held i) where
+  abbrev f : ℕ → Placed Record
+  f = recordIn s u row
 
-  pub laid-length : at + length (bytesOf before (entriesAt n f i hi)) ≡ length (fromStart (entriesAt n f first hi))
-  laid-length = rw (← l .lenA) (sym (length-append (l .A) (bytesOf before (entriesAt n f i hi))) ∙ ap length (l .written))
+  abbrev es : Entries Record (List ℕ)
+  es = entriesAt n f first hi
 
-  pub laid-all : hi ≤ i → l .A ≡ fromStart (entriesAt n f first hi)
-  laid-all h = nil-end (l .A) (bytesOf before (entriesAt n f i hi)) (fromStart (entriesAt n f first hi)) (no-bytes n f before i hi h) (l .written)
+  inner-length : length (overwritten behind (g .T) o) ≡ length o
+  inner-length = over-length behind o (omega (arith, g .end, g .fits)) (g .T) (omega (arith, g .end, g .fits))
 
-  -- one more entry
-  module _ {next : ℕ} (h : i < hi) (e : f i .layer ≡ n) (c : Cuts f n (i + 1) hi next) where
-    abbrev entry-bytes : List ℕ
-    entry-bytes = entryBytes (entryAfter before (f i .item .key) (linkTo (gapFor n (span f (i + 1) (next - (i + 1))))) (f i .item .val))
+  pub out-length : length out ≡ length o
+  out-length =
+      let h : start + length (g .B) ≤ length (overwritten behind (g .T) o) = omega (arith, inner-length, g .place, g .inside, g .apart, g .end, g .fits) in
+      ap length (g .is) ∙ over-length start (overwritten behind (g .T) o) (omega arith) (g .B) h ∙ inner-length
 
-    pub laid-least : at + length entry-bytes ≤ length (fromStart (entriesAt n f first hi))
-    laid-least =
+  pub tail-within : tail ≤ length out
+  tail-within = omega (arith, out-length, g .fits)
+
+  pub tail-grown : behind ≤ tail
+  tail-grown = omega (arith, g .end)
+
+  pub limit-within : (ys : List ℕ) → length ys ≡ length (lent tail out) → limit ≤ length (back tail out ys)
+  limit-within ys e = omega (arith, part-length tail out (length out - tail) (omega (arith, tail-within)) ys e, out-length, g .apart, g .end, g .fits)
+
+  pub turn-length : (ys zs : List ℕ) → length ys ≡ length (lent tail out) → length zs ≡ length (take (limit - at) (drop at (back tail out ys)))
+      → length (take at (back tail out ys) ++ (zs ++ drop (limit - at) (drop at (back tail out ys)))) ≡ length o
+  turn-length ys zs e k =
+      part-length at (back tail out ys) (limit - at) (omega (arith, limit-within ys e, g .inside)) zs k
+      ∙ part-length tail out (length out - tail) (omega (arith, tail-within)) ys e ∙ out-length
+
+  -- all entries are written
+  pub laid-all : hi ≤ i → EntriesWritten es start limit behind o out (record { room = true; at = at; below = tail - behind })
+  unfolding entriesFit
+  laid-all h =
+      let b : g .B ≡ entriesBytes [] es = nil-end (g .B) (entriesBytes (take held previous) (entriesAt n f i hi)) (entriesBytes [] es) (no-bytes n f (take held previous) i hi h) (g .bytes) in
+      let t : g .T ≡ tablesOf [] es = nil-end (g .T) (tablesOf (take held previous) (entriesAt n f i hi)) (tablesOf [] es) (no-tables n f (take held previous) i hi h) (g .tables) in
+      record {
+        room =
+            sym (
+            and-both
+            (le-leb (start + length (entriesBytes [] es)) limit (omega (arith, g .place, g .inside, ap length b)))
+            (le-leb (behind + length (tablesOf [] es)) (length o) (omega (arith, g .end, g .fits, ap length t))));
+        wrote = λ _. g .is ∙ rw (b, t);
+        ends = λ _. g .place ∙ rw b;
+        tables = λ _. omega (arith, g .end, ap length t);
+      }
+
+  -- ---- a turn: the gap behind the i-th record was written, and its entry was tried
+  module _ (h : i < hi) (v : Stands s u (getD row i 0)) {next : ℕ} (w : Run row n (i + 1) hi next)
+      {ys : List ℕ} {b : Below} (gap : GapWritten (gapAt s u row (i + 1) next n) (lent tail out) ys b) (kept : length ys ≡ length (lent tail out)) where
+    abbrev gap-i : Gap Record (List ℕ)
+    gap-i = gapAt s u row (i + 1) next n
+
+    layer-is : f i .layer ≡ n
+    layer-is = record-layer s u row i ∙ g .here h
+
+    lent-size : length (lent tail out) ≡ length o - tail
+    lent-size = length-take-le (length out - tail) (drop tail out) (omega (arith, length-drop tail out)) ∙ omega (arith, out-length)
+
+    pub tables-most : tail + length (tableIn gap-i) ≤ behind + length (tablesOf [] es)
+    tables-most =
         omega (
           arith,
-          laid-length,
-          ap length (bytes-turn n f before i hi next h e c),
-          length-append entry-bytes (bytesOf (f i .item .key) (entriesAt n f next hi)),
+          g .end,
+          ap length (g .tables),
+          length-append (g .T) (tablesOf (take held previous) (entriesAt n f i hi)),
+          ap length (tables-turn n f (take held previous) i hi next h layer-is (cuts s u row n (i + 1) hi next w)),
+          length-append (tableIn gap-i) (tablesOf (f i .item .key) (entriesAt n f next hi)),
         )
 
-    pub laid-more : (zs b rest′ : List ℕ) → b ≡ entry-bytes → zs ≡ front b (lent at out) → drop (length entry-bytes) rest ≡ rest′
-        → Laid f n first hi (back at out zs) rest′ (at + length entry-bytes) next (f i .item .key)
-    laid-more zs b rest′ eb ez er = record {
-      A = l .A ++ entry-bytes;
-      is = laid-back zs ∙ rw (ez, eb, laid-lent, er) (sym (append-assoc (l .A) entry-bytes rest′));
-      lenA = length-append (l .A) entry-bytes ∙ rw (l .lenA);
-      written = append-assoc (l .A) entry-bytes (bytesOf (f i .item .key) (entriesAt n f next hi)) ∙ rw (← bytes-turn n f before i hi next h e c) (l .written);
-    }
+    -- the entry as the code has it
+    module _ {keys′ notes′ previous′ zs : List ℕ} {m : Added}
+        (d : EntryTried s u (getD row i 0) (take held previous) (b .linked) (b .digest) (take (limit - at) (drop at (back tail out ys))) zs keys′ notes′ previous′ m) where
+      abbrev coded : List ℕ
+      coded = bytesAfter s u (getD row i 0) (take held previous) (linkIf (b .linked) (b .digest))
 
-pub laid-by : {f : ℕ → Placed Record} {n first hi : ℕ} {out rest rest′ : List ℕ} {at at′ i : ℕ} {before before′ : List ℕ}
-    → rest′ ≡ rest → at′ ≡ at → before′ ≡ before → Laid f n first hi out rest at i before → Laid f n first hi out rest′ at′ i before′
-laid-by a b c l = rw (a, b, c) l
+      abbrev bytes-i : List ℕ
+      bytes-i = entryBytes (entryAfter (take held previous) (f i .item .key) (linkTo gap-i) (f i .item .val))
 
--- ---- the state of the output with pages below: M, the rest of the page's place; T, the pages below
-pub record Turn (f : ℕ → Placed Record) (n first hi own : ℕ) (left : Gap Record (List ℕ)) (o out : List ℕ) (at tail i : ℕ) (before : List ℕ) : Type 0 where
-  pub M : List ℕ
-  pub T : List ℕ
-  pub laid : Laid f n first hi out (M ++ (T ++ drop tail o)) at i before
-  pub lenM : at + length M ≡ own
-  pub lenT : own + length T ≡ tail
-  pub below : T ++ tablesOf before (entriesAt n f i hi) ≡ tableIn left ++ tablesOf [] (entriesAt n f first hi)
+      abbrev out₁ : List ℕ
+      out₁ = back tail out ys
 
-length3 : (a m t : List ℕ) (x y z : ℕ) → length a ≡ x → x + length m ≡ y → y + length t ≡ z → length (a ++ (m ++ t)) ≡ z
-length3 a m t x y z ea em et = length-append a (m ++ t) ∙ rw (length-append m t) (omega arith)
+      module _ (done : GapDone gap-i (lent tail out) ys (b .len) (b .linked) (b .digest)) (fits : length (tableIn gap-i) ≤ length (lent tail out)) where
+        coded-is : coded ≡ bytes-i
+        coded-is = rw (record-item s u row i, done .link)
 
-assoc3 : (a m t d : List ℕ) → a ++ (m ++ (t ++ d)) ≡ (a ++ (m ++ t)) ++ d
-assoc3 a m t d = simp append-assoc
+        coded-length : length coded ≡ entryLength (take held previous) (recordOfWord s u (getD row i 0) .key) (b .linked)
+        coded-length = length-entry (take held previous) (recordOfWord s u (getD row i 0) .key) (b .linked) (b .digest) (recordOfWord s u (getD row i 0) .val) (done .whole) (val-length v)
 
--- ---- the first state
-module _ (f : ℕ → Placed Record) (n first hi own count tail at : ℕ) (left : Gap Record (List ℕ)) (o ys x : List ℕ)
-    (room : own ≤ length o) (small : at ≤ own)
-    (ec : count ≡ countOf [] (entriesAt n f first hi)) (eh : length (pageStartBytes count) ≡ at) (et : tail ≡ own + length (tableIn left))
-    (ey : ys ≡ front (tableIn left) (lent own o)) (ex : x ≡ front (pageStartBytes count) (back own o ys)) where
-  own-length : length (take own o) ≡ own
-  own-length = length-take-le own o room
+        more-tail : tail + length (tableIn gap-i) ≤ length o
+        more-tail = omega (arith, lent-size, fits, g .fits)
 
-  split : o ≡ take own o ++ drop own o
-  split = sym (take-append-drop own o)
+        first-is : out₁ ≡ overwritten tail (tableIn gap-i) out
+        first-is =
+            ap (λ (l : List ℕ). take tail out ++ (l ++ drop (length out - tail) (drop tail out))) (done .wrote)
+            ∙ over-part tail out (omega (arith, out-length, g .fits)) (tableIn gap-i) (length out - tail) (omega (arith, out-length, more-tail)) (omega (arith, out-length, g .fits))
 
-  first-ys : ys ≡ tableIn left ++ drop tail o
-  first-ys = ey ∙ rw (lent-is o (take own o) (drop own o) own split own-length, drop-drop (length (tableIn left)) own o, et)
+        first-length : length out₁ ≡ length o
+        first-length = ap length first-is ∙ over-length tail out (omega (arith, out-length, g .fits)) (tableIn gap-i) (omega (arith, out-length, more-tail)) ∙ out-length
 
-  first-is : x ≡ pageStartBytes count ++ (drop at (take own o) ++ (tableIn left ++ drop tail o))
-  first-is =
-      let h : at ≤ length (take own o) = omega (arith, own-length) in
-      ex ∙ rw (eh, back-is o (take own o) (drop own o) own split own-length ys, drop-append-le at (take own o) ys h, first-ys)
+        part-size : length (take (limit - at) (drop at out₁)) ≡ limit - at
+        part-size = length-take-le (limit - at) (drop at out₁) (omega (arith, length-drop at out₁, first-length, g .inside, g .apart, g .end, g .fits))
 
-  len-m : at + length (drop at (take own o)) ≡ own
-  len-m = omega (arith, length-drop at (take own o), own-length)
+        bytes-most : at + length bytes-i ≤ start + length (entriesBytes [] es)
+        bytes-most =
+            omega (
+              arith,
+              g .place,
+              ap length (g .bytes),
+              length-append (g .B) (entriesBytes (take held previous) (entriesAt n f i hi)),
+              ap length (bytes-turn n f (take held previous) i hi next h layer-is (cuts s u row n (i + 1) hi next w)),
+              length-append bytes-i (entriesBytes (f i .item .key) (entriesAt n f next hi)),
+            )
 
-  pub same-behind : drop tail x ≡ drop tail o
-  same-behind =
-      ap (drop tail) (first-is ∙ assoc3 (pageStartBytes count) (drop at (take own o)) (tableIn left) (drop tail o))
-      ∙ drop-at (pageStartBytes count ++ (drop at (take own o) ++ tableIn left)) (drop tail o) tail
-      (length3 (pageStartBytes count) (drop at (take own o)) (tableIn left) at own tail eh len-m (sym et))
+        pub entry-lacks : m .room ≡ false → limit < start + length (entriesBytes [] es)
+        entry-lacks e =
+            omega (
+              arith,
+              leb-false (entryLength (take held previous) (recordOfWord s u (getD row i 0) .key) (b .linked)) (length (take (limit - at) (drop at out₁))) (sym (d .room) ∙ e),
+              part-size,
+              coded-length,
+              ap length coded-is,
+              bytes-most,
+              g .inside,
+            )
 
-  pub first-turn : Turn f n first hi own left x x at tail first []
-  first-turn = record {
-    M = drop at (take own o);
-    T = tableIn left;
-    laid = record { A = pageStartBytes count; is = first-is ∙ rw same-behind; lenA = eh; written = rw ec };
-    lenM = len-m;
-    lenT = sym et;
-    below = refl;
-  }
+        module _ (e : m .room ≡ true) where
+          enough : length coded ≤ limit - at
+          enough =
+              omega (
+                arith,
+                leb-true (entryLength (take held previous) (recordOfWord s u (getD row i 0) .key) (b .linked)) (length (take (limit - at) (drop at out₁))) (sym (d .room) ∙ e),
+                part-size,
+                coded-length,
+              )
 
--- ---- one turn
-module _ {f : ℕ → Placed Record} {n first hi own at tail i next : ℕ} {left : Gap Record (List ℕ)} {o out before : List ℕ}
-    (t : Turn f n first hi own left o out at tail i before)
-    (h : i < hi) (e : f i .layer ≡ n) (c : Cuts f n (i + 1) hi next)
-    (whole : own ≡ length (fromStart (entriesAt n f first hi)) + length (pageEndBytes (linkTo left))) where
-  abbrev gap : Gap Record (List ℕ)
-  gap = gapFor n (span f (i + 1) (next - (i + 1)))
+          abbrev out₂ : List ℕ
+          out₂ = take at out₁ ++ (zs ++ drop (limit - at) (drop at out₁))
 
-  abbrev bytes : List ℕ
-  bytes = entryBytes (entryAfter before (f i .item .key) (linkTo (gapFor n (span f (i + 1) (next - (i + 1))))) (f i .item .val))
+          second-is : out₂ ≡ overwritten at coded (overwritten tail (tableIn gap-i) out)
+          second-is =
+              ap (λ (l : List ℕ). take at out₁ ++ (l ++ drop (limit - at) (drop at out₁))) (d .wrote e)
+              ∙ over-part at out₁ (omega (arith, first-length, g .inside, g .apart, g .end, g .fits)) coded (limit - at) enough (omega (arith, first-length, g .inside, g .apart, g .end, g .fits))
+              ∙ ap (overwritten at coded) first-is
 
-  tables-at : length (tablesOf before (entriesAt n f i hi)) ≡ length (tableIn gap) + length (tablesOf (f i .item .key) (entriesAt n f next hi))
-  tables-at = ap length (tables-turn n f before i hi next h e c) ∙ length-append (tableIn gap) (tablesOf (f i .item .key) (entriesAt n f next hi))
+          all-room : start ≤ length (overwritten behind (g .T ++ tableIn gap-i) o)
+          all-room =
+              let l : behind + length (g .T ++ tableIn gap-i) ≤ length o = omega (arith, length-append (g .T) (tableIn gap-i), g .end, more-tail) in
+              omega (arith, over-length behind o (omega (arith, g .end, g .fits)) (g .T ++ tableIn gap-i) l, g .place, g .inside, g .apart, g .end, g .fits)
 
-  -- the entry has its place
-  entry-fits : length bytes ≤ length (t .M)
-  entry-fits = omega (arith, laid-least (t .laid) h e c, t .lenM, whole)
+          all-is : out₂ ≡ overwritten start (g .B ++ coded) (overwritten behind (g .T ++ tableIn gap-i) o)
+          all-is =
+              let k : start + length (g .B) ≤ tail = omega (arith, g .place, g .inside, g .apart, g .end) in
+              let l : tail ≤ length (overwritten behind (g .T) o) = omega (arith, inner-length, g .fits) in
+              second-is
+              ∙ rw (g .is, ← over-apart start tail (g .B) (tableIn gap-i) (overwritten behind (g .T) o) k l, g .end, g .place, over-more behind o (omega (arith, g .end, g .fits)) (g .T) (tableIn gap-i))
+              (over-more start (overwritten behind (g .T ++ tableIn gap-i) o) all-room (g .B) coded)
 
-  pub entry-own : at + length bytes ≤ own
-  entry-own = omega (arith, entry-fits, t .lenM)
+          pub goes-on : Going s u row n first hi start limit behind o keys′ notes′ out₂ (at + m .len) (tail + b .len) previous′ (m .held) next
+          goes-on =
+              let key : take (m .held) previous′ ≡ f i .item .key = d .next e .key ∙ ap (λ (y : Record). y .key) (sym (record-item s u row i)) in
+              let c = cuts s u row n (i + 1) hi next w in
+              record {
+                holding = d .next e .holding;
+                most = w .to;
+                here = w .stop;
+                B = g .B ++ coded;
+                T = g .T ++ tableIn gap-i;
+                is = all-is;
+                place = omega (arith, g .place, d .size e, coded-length, length-append (g .B) coded);
+                end = omega (arith, g .end, done .size, length-append (g .T) (tableIn gap-i));
+                bytes =
+                    rw (key, coded-is)
+                    (append-assoc (g .B) bytes-i (entriesBytes (f i .item .key) (entriesAt n f next hi)) ∙ rw (← bytes-turn n f (take held previous) i hi next h layer-is c) (g .bytes));
+                tables =
+                    rw key
+                    (append-assoc (g .T) (tableIn gap-i) (tablesOf (f i .item .key) (entriesAt n f next hi)) ∙ rw (← tables-turn n f (take held previous) i hi next h layer-is c) (g .tables));
+                inside = omega (arith, d .size e, coded-length, enough, g .inside);
+                apart = g .apart;
+                fits = omega (arith, done .size, more-tail);
+              }
 
-  below-length : length (t .T) + length (tablesOf before (entriesAt n f i hi)) ≡ length (tableIn left ++ tablesOf [] (entriesAt n f first hi))
-  below-length = sym (length-append (t .T) (tablesOf before (entriesAt n f i hi))) ∙ ap length (t .below)
+      -- both had room
+      pub turn-done : not (b .room && m .room) ≡ false
+          → Going s u row n first hi start limit behind o keys′ notes′ (take at out₁ ++ (zs ++ drop (limit - at) (drop at out₁))) (at + m .len) (tail + b .len) previous′ (m .held) next
+      turn-done e =
+          let both = and-inv (b .room) (not-false (b .room && m .room) e) in
+          goes-on (gap .done (both .0)) (leb-true (length (tableIn gap-i)) (length (lent tail out)) (sym (gap .room) ∙ both .0)) (both .1)
 
-  -- what the pages below take, at least
-  pub below-more : tail + length (tableIn gap) ≤ own + length (tableIn left ++ tablesOf [] (entriesAt n f first hi))
-  below-more = omega (arith, tables-at, below-length, t .lenT)
+      -- one of them had none
+      refused-by : (b .room && m .room) ≡ false → false ≡ entriesFit es start limit behind o
+      unfolding entriesFit
+      refused-by e =
+          cases (b .room)
+          (λ y.
+          let q = gap .done y in
+          let l = leb-true (length (tableIn gap-i)) (length (lent tail out)) (sym (gap .room) ∙ y) in
+          rw (lt-leb (start + length (entriesBytes [] es)) limit (entry-lacks q l (sym (rw y) ∙ e))))
+          (λ y.
+          let l = leb-false (length (tableIn gap-i)) (length (lent tail out)) (sym (gap .room) ∙ y) in
+          rw (lt-leb (behind + length (tablesOf [] es)) (length o) (omega (arith, l, lent-size, tables-most, g .fits))) (sym (and-false (leb (start + length (entriesBytes [] es)) limit))))
 
-  abbrev A : List ℕ
-  A = t .laid .A
-
-  out-is : out ≡ (A ++ (t .M ++ t .T)) ++ drop tail o
-  out-is = t .laid .is ∙ assoc3 A (t .M) (t .T) (drop tail o)
-
-  three : length (A ++ (t .M ++ t .T)) ≡ tail
-  three = length3 A (t .M) (t .T) at own tail (t .laid .lenA) (t .lenM) (t .lenT)
-
-  module _ (ys : List ℕ) (ey : ys ≡ front (tableIn gap) (lent tail out)) where
-    ys-is : ys ≡ tableIn gap ++ drop (tail + length (tableIn gap)) o
-    ys-is = ey ∙ rw (lent-is out (A ++ (t .M ++ t .T)) (drop tail o) tail out-is three, drop-drop (length (tableIn gap)) tail o)
-
-    behind : List ℕ
-    behind = t .T ++ (tableIn gap ++ drop (tail + length (tableIn gap)) o)
-
-    child-is : back tail out ys ≡ A ++ (t .M ++ behind)
-    unfolding behind
-    child-is = back-is out (A ++ (t .M ++ t .T)) (drop tail o) tail out-is three ys ∙ sym (assoc3 A (t .M) (t .T) ys) ∙ rw ys-is
-
-    child-laid : Laid f n first hi (back tail out ys) (t .M ++ behind) at i before
-    child-laid = record { A = A; is = child-is; lenA = t .laid .lenA; written = t .laid .written }
-
-    pub entry-room : length bytes ≤ length (lent at (back tail out ys))
-    entry-room = rw (laid-lent child-laid) (omega (arith, length-append (t .M) behind, entry-fits))
-
-    -- the rest behind the entry
-    rest-is : drop (length bytes) (t .M ++ behind) ≡ drop (length bytes) (t .M) ++ ((t .T ++ tableIn gap) ++ drop (tail + length (tableIn gap)) o)
-    unfolding behind
-    rest-is = drop-append-le (length bytes) (t .M) behind entry-fits ∙ rw (append-assoc (t .T) (tableIn gap) (drop (tail + length (tableIn gap)) o))
-
-    pub next-turn : (zs b : List ℕ) → b ≡ bytes → zs ≡ front b (lent at (back tail out ys))
-        → Turn f n first hi own left o (back at (back tail out ys) zs) (at + length bytes) (tail + length (tableIn gap)) next (f i .item .key)
-    next-turn zs b eb ez = record {
-      M = drop (length bytes) (t .M);
-      T = t .T ++ tableIn gap;
-      laid = laid-more child-laid h e c zs b (drop (length bytes) (t .M) ++ ((t .T ++ tableIn gap) ++ drop (tail + length (tableIn gap)) o)) eb ez rest-is;
-      lenM = omega (arith, length-drop (length bytes) (t .M), entry-fits, t .lenM);
-      lenT = omega (arith, length-append (t .T) (tableIn gap), t .lenT);
-      below = append-assoc (t .T) (tableIn gap) (tablesOf (f i .item .key) (entriesAt n f next hi)) ∙ rw (← tables-turn n f before i hi next h e c) (t .below);
-    }
-
--- ---- the end
-pub drop-more : (a b : ℕ) (o q : List ℕ) → a ≤ b → drop a o ≡ drop a q → drop b o ≡ drop b q
-drop-more a b o q h e =
-    let z : a + (b - a) ≡ b = omega arith in
-    rw (← z, ← drop-drop (b - a) a o, ← drop-drop (b - a) a q, e)
-
-module _ {f : ℕ → Placed Record} {n lo hi first own at tail i : ℕ} (c : Cuts f n lo hi first) {o out before : List ℕ}
-    (t : Turn f n first hi own (gapFor n (span f lo (first - lo))) o out at tail i before)
-    (h : hi ≤ i) (whole : own ≡ length (bytesOfPage (spelt (build digestOf n (span f lo (hi - lo))))))
-    (linked : Bool) (digest : List ℕ) (hd : length digest ≡ 32) (el : linkIf linked digest ≡ linkTo (gapFor n (span f lo (first - lo)))) where
-  abbrev tree : Page Record (List ℕ)
-  tree = build digestOf n (span f lo (hi - lo))
-
-  abbrev foot : List ℕ
-  foot = pageEndBytes (linkIf linked digest)
-
-  A-is : t .laid .A ≡ fromStart (entriesAt n f first hi)
-  A-is = laid-all (t .laid) h
-
-  T-is : t .T ≡ tableIn (gapFor n (span f lo (first - lo))) ++ tablesOf [] (entriesAt n f first hi)
-  T-is =
-      nil-end (t .T) (tablesOf before (entriesAt n f i hi)) (tableIn (gapFor n (span f lo (first - lo))) ++ tablesOf [] (entriesAt n f first hi))
-      (no-tables n f before i hi h) (t .below)
-
-  M-is : length (t .M) ≡ length foot
-  M-is = omega (arith, ap (λ (g : Option (List ℕ)). length (pageEndBytes g)) el, t .lenM, t .laid .lenA, ap length A-is, page-length n f lo hi first c, whole)
-
-  pub foot-room : 2 + gapLength linked ≤ length (lent at out)
-  foot-room = rw (laid-lent (t .laid)) (omega (arith, length-append (t .M) (t .T ++ drop tail o), M-is, length-page-end linked digest hd))
-
-  total : tail ≡ length (table (spelt tree))
-  total = omega (arith, table-length n f lo hi first c, ap length T-is, t .lenT, whole)
-
-  module _ (o₀ zs : List ℕ) (ez : zs ≡ front foot (lent at out)) (tail₀ : ℕ) (more : tail₀ ≤ tail) (same : drop tail₀ o ≡ drop tail₀ o₀) where
-    last-zs : zs ≡ foot ++ (t .T ++ drop tail o)
-    last-zs = ez ∙ rw (laid-lent (t .laid), drop-at (t .M) (t .T ++ drop tail o) (length foot) M-is)
-
-    last-is : back at out zs ≡ bytesOfPage (spelt tree) ++ (t .T ++ drop tail o)
-    last-is =
-        laid-back (t .laid) zs
-        ∙ rw (last-zs, A-is, bytes-are n f lo hi first c, ← el)
-        (sym (append-assoc (fromStart (entriesAt n f first hi)) foot (t .T ++ drop tail o)))
-
-    table-wrote : back at out zs ≡ front (table (spelt tree)) o₀
-    table-wrote =
-        let q : drop tail o ≡ drop tail o₀ = drop-more tail₀ tail o o₀ more same in
-        last-is
-        ∙ rw (q, T-is, total)
-        (sym (append-assoc (bytesOfPage (spelt tree)) (tableIn (gapFor n (span f lo (first - lo))) ++ tablesOf [] (entriesAt n f first hi)) (drop (length (table (spelt tree))) o₀))
-        ∙ rw (table-is n f lo hi first c))
-
-    pub all-written : tail ≤ length o₀ → Written tree o₀ (back at out zs) (record { room = true; len = tail; own = own; first = first })
-    all-written fits =
-        let k : length (table (spelt tree)) ≤ length o₀ = omega (arith, total) in
-        record { room = sym (le-leb (length (table (spelt tree))) (length o₀) k); done = record { wrote = table-wrote; size = total; first = whole } }
+      pub turn-refused : (after : List ℕ) → not (b .room && m .room) ≡ true → EntriesWritten es start limit behind o after (record { room = false; at = 0; below = 0 })
+      turn-refused after e = record {
+        room = refused-by (not-true (b .room && m .room) e);
+        wrote = λ x. absurd (false≢true x);
+        ends = λ x. absurd (false≢true x);
+        tables = λ x. absurd (false≢true x);
+      }

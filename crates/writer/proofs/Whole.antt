@@ -1,42 +1,44 @@
 -- The table of a row's first records, and the output that it stands in.
 use Prim.Native.Nat.{ℕ, zero, suc, _+_, _-_, _≤_, _<_, min}
 use mathlib.Core.Path.{_≡_, refl, sym, ap, _∙_}
-use mathlib.Core.Bool.{true, false, _&&_}
+use mathlib.Core.Bool.{true, cond, _&&_}
 use mathlib.Core.List.{List, _++_, map, append-assoc}
 use native.Mathlib.Omega.{arith}
 use borrow.Author.Tests.{le-leb, lt-leb, leb-true, leb-false}
 use borrow.Table.Steps.{cases}
 use lib.Dec.{leb}
-use lib.ListN.{length, take, drop, getD, replicate, length-append, length-drop, length-replicate}
-use lib.Seq.{length-take-le, drop-cons}
+use lib.ListN.{length, take, drop, getD, replicate, length-append, length-drop, length-replicate, take-append-drop}
+use lib.Seq.{length-take-le, take-at, drop-cons}
+use Rattle.word.specs.Word.{layerIn}
+use Rattle.limits.specs.Limits.{longest}
+use Rattle.bytestring.proofs.Lending.{lent, back, back-is}
+use Rattle.bytestring.specs.Bytes.{zeros}
 use Rattle.answer.specs.declared.Refusal.the-variants.{NoRoom}
 use Rattle.answer.specs.declared.Answer.the-variants.{Done, Refused}
-use Rattle.fips180.specs.Hash.{zeros}
-use Rattle.sha256.specs.Digest.{longest}
 use Rattle.key.specs.Layer.{layerOf}
-use Rattle.page.proofs.Lending.{lent, back, lent-is, back-is}
 use Rattle.tree.specs.Tree.{Page, topLayer, treeOf}
 use Rattle.tree.specs.Record.{Record, spelt, placed}
 use Rattle.tree.specs.Table.{table, treeOfSet}
-use Rattle.row.specs.Row.{layerIn, recordOf, Stands, Row, recordsOf}
+use Rattle.row.specs.Row.{recordOfWord, Stands, Row, recordsOf}
 use Rattle.row.proofs.Rows.{word-record}
 use Rattle.row.proofs.Memories.{fresh-zeros}
-use Rattle.writer.specs.Build.{recordIn, span, pageAt}
-use Rattle.writer.specs.Wrote.{Ready, Written}
+use Rattle.layout.specs.Build.{recordIn, span}
+use Rattle.layout.specs.Layout.{Ready}
+use Rattle.writer.specs.Wrote.{pageAt, Written}
 use Rattle.writer.specs.Output.{fitsOutput, tableAnswer, tableOutput}
 use Rattle.writer.specs.declared.pages.Wrote.{Wrote}
 use Rattle.writer.proofs.Gaps.{table-done, table-fits}
 
 -- ---- the records of a row
 -- a word's layer is that of its record's key
-record-placed : (s u row : List ℕ) (i : ℕ) → Stands s u (getD row i 0) → recordIn s u row i ≡ placed (recordOf s u (getD row i 0))
+record-placed : (s u row : List ℕ) (i : ℕ) → Stands s u (getD row i 0) → recordIn s u row i ≡ placed (recordOfWord s u (getD row i 0))
 unfolding recordIn
 record-placed s u row i v =
-    let e : layerIn (getD row i 0) ≡ layerOf (recordOf s u (getD row i 0) .key) = v .layer ∙ ap (λ (r : Record). layerOf (r .key)) (sym (word-record (v .held))) in
+    let e : layerIn (getD row i 0) ≡ layerOf (recordOfWord s u (getD row i 0) .key) = v .layer ∙ ap (λ (r : Record). layerOf (r .key)) (sym (word-record (v .held))) in
     rw e
 
 span-placed : (s u row : List ℕ) (m i : ℕ) → i + m ≤ length row → ((j : ℕ) → i ≤ j → j < i + m → Stands s u (getD row j 0))
-    → span (recordIn s u row) i m ≡ map placed (map (recordOf s u) (take m (drop i row)))
+    → span (recordIn s u row) i m ≡ map placed (map (recordOfWord s u) (take m (drop i row)))
 unfolding span
 span-placed s u row zero i h st = refl
 span-placed s u row (suc m) i h st =
@@ -61,6 +63,11 @@ module _ {s u row : List ℕ} {n : ℕ} (r : Row s u row n) where
   }
 
 -- ---- the output
+pub cleared-behind : (o zs : List ℕ) (len : ℕ) → len ≤ length o → zs ≡ zeros (length (lent len o)) → back len o zs ≡ take len o ++ zeros (length o - len)
+cleared-behind o zs len h e =
+    let size : length (lent len o) ≡ length o - len = length-take-le (length o - len) (drop len o) (omega (arith, length-drop len o)) in
+    back-is o (take len o) (drop len o) len (sym (take-append-drop len o)) (length-take-le len o h) zs ∙ rw (e, size)
+
 least-leb : (a b c : ℕ) → leb a (min b c) ≡ leb a b && leb a c
 least-leb a b c =
     cases (leb a b)
@@ -105,22 +112,15 @@ module _ {t : Page Record (List ℕ)} {o : List ℕ} {k : ℕ} {ys : List ℕ} {
     pub len-fits : r .len ≤ length (ys ++ drop k o)
     len-fits = omega (arith, table-done (w .written) e .size, ap length whole-is, length-append (table (spelt t)) behind)
 
-    pub answer-done : Done (r .len) ≡ tableAnswer (table (spelt t)) (length o)
-    unfolding tableAnswer
-    answer-done = rw (← fit-is, e, table-done (w .written) e .size)
+    take-is : take (r .len) (ys ++ drop k o) ≡ table (spelt t)
+    take-is = rw whole-is (take-at (table (spelt t)) behind (r .len) (sym (table-done (w .written) e .size)))
 
-    pub output-done : (zs : List ℕ) → zs ≡ zeros (length (lent (r .len) (ys ++ drop k o))) → back (r .len) (ys ++ drop k o) zs ≡ tableOutput (table (spelt t)) (length o)
-    unfolding tableOutput
-    output-done zs ez =
-        let n : length (table (spelt t)) ≡ r .len = sym (table-done (w .written) e .size) in
-        let l : lent (r .len) (ys ++ drop k o) ≡ behind = lent-is (ys ++ drop k o) (table (spelt t)) behind (r .len) whole-is n in
-        back-is (ys ++ drop k o) (table (spelt t)) behind (r .len) whole-is n zs ∙ rw (ez, l, behind-length, ← fit-is, e)
+  pub answer-is : cond (r .room) (Done (r .len)) (Refused NoRoom) ≡ tableAnswer (table (spelt t)) (length o)
+  unfolding tableAnswer
+  answer-is = cases (r .room) (λ e. rw (← fit-is, e, table-done (w .written) e .size)) (λ e. rw (← fit-is, e))
 
-  module _ (e : r .room ≡ false) where
-    pub answer-refused : Refused NoRoom ≡ tableAnswer (table (spelt t)) (length o)
-    unfolding tableAnswer
-    answer-refused = rw (← fit-is, e)
-
-    pub output-refused : (xs zs : List ℕ) → length xs ≡ length o → zs ≡ zeros (length xs) → zs ≡ tableOutput (table (spelt t)) (length o)
-    unfolding tableOutput
-    output-refused xs zs h ez = ez ∙ rw (h, ← fit-is, e)
+  pub output-is : length (ys ++ drop k o) ≡ length o
+      → cond (r .room) (take (r .len) (ys ++ drop k o) ++ zeros (length (ys ++ drop k o) - r .len)) (zeros (length (ys ++ drop k o))) ≡ tableOutput (table (spelt t)) (length o)
+  unfolding tableOutput
+  output-is same =
+      cases (r .room) (λ e. rw (same, take-is e, ← fit-is, e, table-done (w .written) e .size)) (λ e. rw (same, ← fit-is, e))

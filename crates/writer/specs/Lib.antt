@@ -1,4 +1,2 @@
-pub mod Build
 pub mod Wrote
-pub mod Label
 pub mod Output

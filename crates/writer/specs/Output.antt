@@ -4,11 +4,11 @@ use mathlib.Core.Bool.{Bool, cond, _&&_}
 use mathlib.Core.List.{List, _++_}
 use lib.ListN.{length}
 use lib.Dec.{leb}
+use Rattle.limits.specs.Limits.{longest}
+use Rattle.bytestring.specs.Bytes.{zeros}
 use Rattle.answer.specs.declared.Refusal.the-variants.{NoRoom}
 use Rattle.answer.specs.declared.Answer.{Answer}
 use Rattle.answer.specs.declared.Answer.the-variants.{Done, Refused}
-use Rattle.fips180.specs.Hash.{zeros}
-use Rattle.sha256.specs.Digest.{longest}
 
 -- A table fits an output that is as long, and is no longer than any register.
 unfoldable pub fitsOutput : List ℕ → ℕ → Bool

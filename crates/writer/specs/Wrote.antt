@@ -1,38 +1,42 @@
--- What the writer says.
-use Prim.Native.Nat.{ℕ, zero, suc, _≤_, _<_}
+-- What the writer of pages says.
+use Prim.Native.Nat.{ℕ, _+_, _-_}
 use mathlib.Core.Path.{_≡_}
-use mathlib.Core.Bool.{Bool, true, false, cond}
-use mathlib.Core.Option.{Option}
-use mathlib.Core.List.{List}
-use lib.ListN.{length, take, getD}
+use mathlib.Core.Bool.{Bool, true, false, cond, _&&_}
+use mathlib.Core.List.{List, [], _++_}
+use lib.ListN.{length, take, drop}
 use lib.Dec.{leb}
-use Rattle.fips180.specs.Hash.{sha256, zeros}
-use Rattle.page.specs.Page.{entryBytes}
-use Rattle.page.specs.Front.{front, linkIf, entryAfter}
-use Rattle.tree.specs.Tree.{Page, Gap}
-use Rattle.tree.specs.Record.{Record, spelt, speltUnder}
-use Rattle.tree.specs.Table.{linkOf, rawPage, bytesOfPage, table, tableUnder}
-use Rattle.row.specs.Row.{layerIn, recordOf, Row}
-use Rattle.row.specs.Memory.{Remembers}
+use Rattle.bytestring.specs.Bytes.{zeros, front}
+use Rattle.fips180.specs.Hash.{sha256}
+use Rattle.page_writer.specs.Front.{linkIf}
+use Rattle.tree.specs.Tree.{Page, Gap, Entries, build}
+use Rattle.tree.specs.Record.{Record, spelt, speltUnder, speltFrom}
+use Rattle.tree.specs.Table.{linkOf, bytesOfPage, table, tableUnder, tableFrom, digestOf}
+use Rattle.layout.specs.Build.{recordIn, span, gapFor, entriesBytes}
 use Rattle.writer.specs.declared.pages.Wrote.{Wrote}
 use Rattle.writer.specs.declared.pages.Below.{Below}
-use Rattle.writer.specs.declared.pages.Added.{Added}
-use Rattle.writer.specs.declared.pages.Size.{Size}
+use Rattle.writer.specs.declared.pages.Laid.{Laid}
+
+-- The page of the records lo..hi of a row at layer n, and what they are in a gap of such a page.
+abbrev pub pageAt : List ℕ → List ℕ → List ℕ → ℕ → ℕ → ℕ → Page Record (List ℕ)
+pageAt s u row lo hi n = build digestOf n (span (recordIn s u row) lo (hi - lo))
+
+abbrev pub gapAt : List ℕ → List ℕ → List ℕ → ℕ → ℕ → ℕ → Gap Record (List ℕ)
+gapAt s u row lo hi n = gapFor n (span (recordIn s u row) lo (hi - lo))
+
+-- The tables below the entries of a page, which come after a key.
+abbrev pub tablesOf : List ℕ → Entries Record (List ℕ) → List ℕ
+tablesOf before es = tableFrom (speltFrom before es)
 
 -- The table of t stands at the front of what was lent, and its length and that of its first page are answered.
-pub record Done (t : Page Record (List ℕ)) (before after : List ℕ) (len own : ℕ) : Type 0 where
+pub record TableDone (t : Page Record (List ℕ)) (before after : List ℕ) (len own : ℕ) : Type 0 where
   pub wrote : after ≡ front (table (spelt t)) before
   pub size : len ≡ length (table (spelt t))
   pub first : own ≡ length (bytesOfPage (spelt t))
 
-abbrev pub Outcome : Page Record (List ℕ) → List ℕ → List ℕ → Wrote → Bool → Type 0
-Outcome t before after r true = Done t before after (r .len) (r .own)
-Outcome t before after r false = Unit {0}
-
 -- There is no room exactly when the table is longer than what was lent.
 pub record Written (t : Page Record (List ℕ)) (before after : List ℕ) (r : Wrote) : Type 0 where
   pub room : r .room ≡ leb (length (table (spelt t))) (length before)
-  pub done : Outcome t before after r (r .room)
+  pub done : r .room ≡ true → TableDone t before after (r .len) (r .own)
 
 -- The same of a gap.
 pub record GapDone (g : Gap Record (List ℕ)) (before after : List ℕ) (len : ℕ) (linked : Bool) (digest : List ℕ) : Type 0 where
@@ -41,13 +45,9 @@ pub record GapDone (g : Gap Record (List ℕ)) (before after : List ℕ) (len : 
   pub link : linkIf linked digest ≡ linkOf (speltUnder g)
   pub whole : length digest ≡ 32
 
-abbrev pub GapOutcome : Gap Record (List ℕ) → List ℕ → List ℕ → Below → Bool → Type 0
-GapOutcome g before after r true = GapDone g before after (r .len) (r .linked) (r .digest)
-GapOutcome g before after r false = Unit {0}
-
 pub record GapWritten (g : Gap Record (List ℕ)) (before after : List ℕ) (r : Below) : Type 0 where
   pub room : r .room ≡ leb (length (tableUnder (speltUnder g))) (length before)
-  pub done : GapOutcome g before after r (r .room)
+  pub done : r .room ≡ true → GapDone g before after (r .len) (r .linked) (r .digest)
 
 -- What a gap has where a page was written into it: the digest of that page's bytes, or that there was no room.
 unfoldable pub belowOf : Wrote → List ℕ → Below
@@ -56,42 +56,17 @@ belowOf w out =
     (record { room = true; linked = true; len = w .len; digest = sha256 (take (w .own) out) })
     (record { room = false; linked = false; len = 0; digest = zeros 32 })
 
--- What the writer asks for the records lo..hi of a row: the words stand for records, and the memory holds the keys that its notes say.
-pub record Ready (s u row keys notes : List ℕ) (lo hi : ℕ) : Type 0 where
-  pub range : Row s u row hi
-  pub order : lo ≤ hi
-  pub memory : Remembers s u keys notes
-  pub slots : length notes ≡ 128
+-- An output with these bytes written over those from a place on.
+unfoldable pub overwritten : ℕ → List ℕ → List ℕ → List ℕ
+overwritten place bytes out = take place out ++ (bytes ++ drop (place + length bytes) out)
 
--- The memory on the way through a page, and the key before, which is held: it is the first bytes of an array.
-pub record Holding (s u keys notes previous : List ℕ) (held : ℕ) : Type 0 where
-  pub memory : Remembers s u keys notes
-  pub slots : length notes ≡ 128
-  pub room : length previous ≡ 256
-  pub fits : held ≤ 256
+-- The entries of a page have room from `start` to before `limit`, and the tables below them from `behind` on.
+unfoldable pub entriesFit : Entries Record (List ℕ) → ℕ → ℕ → ℕ → List ℕ → Bool
+entriesFit es start limit behind out = leb (start + length (entriesBytes [] es)) limit && leb (behind + length (tablesOf [] es)) (length out)
 
--- The entry of a word's record stands at the front of what was lent, and its key is held.
-pub record EntryDone (s u : List ℕ) (word : ℕ) (previous : List ℕ) (after : Option (List ℕ)) (before out keys notes held : List ℕ) (r : Added) : Type 0 where
-  pub wrote : out ≡ front (entryBytes (entryAfter previous (recordOf s u word .key) after (recordOf s u word .val))) before
-  pub size : r .len ≡ length (entryBytes (entryAfter previous (recordOf s u word .key) after (recordOf s u word .val)))
-  pub holding : Holding s u keys notes held (r .held)
-  pub key : take (r .held) held ≡ recordOf s u word .key
-
--- The records from lo to before r are not of layer n, and r is, or is the end.
-pub record Run (row : List ℕ) (n lo hi r : ℕ) : Type 0 where
-  pub from : lo ≤ r
-  pub to : r ≤ hi
-  pub other : (j : ℕ) → lo ≤ j → j < r → layerIn (getD row j 0) ≡ n → ⊥
-  pub stop : r < hi → layerIn (getD row r 0) ≡ n
-
--- Whether a gap of m records below a page of layer n has a page.
-unfoldable pub hasPage : ℕ → ℕ → Bool
-hasPage zero m = false
-hasPage (suc n) zero = false
-hasPage (suc n) (suc m) = true
-
--- A page's length and the number of its entries.
-pub record Sized (t : Page Record (List ℕ)) (r : Size) : Type 0 where
-  pub own : r .own ≡ length (bytesOfPage (spelt t))
-  pub count : r .count ≡ length (rawPage (spelt t) .entries)
-  pub few : r .count ≤ 4096
+-- They were written there, if they have room.
+pub record EntriesWritten (es : Entries Record (List ℕ)) (start limit behind : ℕ) (before after : List ℕ) (r : Laid) : Type 0 where
+  pub room : r .room ≡ entriesFit es start limit behind before
+  pub wrote : r .room ≡ true → after ≡ overwritten start (entriesBytes [] es) (overwritten behind (tablesOf [] es) before)
+  pub ends : r .room ≡ true → r .at ≡ start + length (entriesBytes [] es)
+  pub tables : r .room ≡ true → r .below ≡ length (tablesOf [] es)

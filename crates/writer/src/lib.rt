@@ -1,17 +1,18 @@
 // The writer: the table of a row of records. The functions are for the crates above and no public calls.
-mod digests; // the digests of pages
 mod pages; // the recursion over the pages
-pub mod output; // outputs
 
-use crate::output::clear;
-use crate::pages::top_layer;
-use crate::pages::write_pages;
+use crate::pages::write_page;
 use answer::Answer;
 use answer::Refusal;
+use bytestring::clear;
+use layout::runs::top_layer;
 ghost use mathlib.Core.Path.{_≡_};
-ghost use Prim.Native.Nat.{min};
-ghost use lib.ListN.{length};
-ghost use Rattle.sha256.specs.Digest.{longest};
+ghost use mathlib.Core.Bool.{true, cond};
+ghost use mathlib.Core.List.{_++_};
+ghost use Prim.Native.Nat.{_-_, _≤_, min};
+ghost use lib.ListN.{length, take};
+ghost use Rattle.limits.specs.Limits.{longest};
+ghost use Rattle.bytestring.specs.Bytes.{zeros};
 ghost use Rattle.tree.specs.Table.{tableOf};
 ghost use Rattle.index.specs.Chain.{Labelled};
 ghost use Rattle.row.specs.Row.{Row, recordsOf};
@@ -21,10 +22,24 @@ ghost use Rattle.writer.specs.Output.{tableAnswer, tableOutput};
 fn used(n: usize) -> usize
     ensures { λ r. ⌜ r ≡ min n longest ⌝ }
 {
-    if n < sha256::LONGEST {
+    if n < limits::LONGEST {
         return n;
     }
-    sha256::LONGEST
+    limits::LONGEST
+}
+
+// Zeros after the table that stands at the front of the output; where there was no room for it, number 13 and zeros.
+fn finish(out: &mut [u8], room: bool, len: usize) -> Answer
+    requires { ⌜ (room ≡ true → (len ≤ length (now out)) × (len ≤ longest)) ⌝ }
+    ensures answer { λ r. ⌜ r ≡ cond room (Answer.Done len) (Answer.Refused Refusal.NoRoom) ⌝ }
+    ensures output { λ _. ⌜ now (out .exit) ≡ cond room (take len (now (out .entry)) ++ zeros (length (now (out .entry)) - len)) (zeros (length (now (out .entry)))) ⌝ }
+{
+    if room {
+        clear(&mut out[len..]);
+        return Answer::Done(len as u32);
+    }
+    clear(out);
+    Answer::Refused(Refusal::NoRoom)
 }
 
 // The table of the first n records of a row, and zeros after it; where it does not fit, number 13 and zeros.
@@ -48,13 +63,13 @@ pub fn write_table(
     let mut notes = [0u64; 128];
     let top = top_layer(row, n);
     let room = used(out.len());
-    let w = write_pages(
+    let first_end = 2 * first_count;
+    let second_end = 2 * second_count;
+    let w = write_page(
         s,
         u,
-        first_chains,
-        first_count,
-        second_chains,
-        second_count,
+        &first_chains[..first_end],
+        &second_chains[..second_end],
         row,
         0,
         n,
@@ -63,12 +78,5 @@ pub fn write_table(
         &mut notes,
         &mut out[..room],
     );
-    let fits = w.room;
-    let len = w.len;
-    if fits {
-        clear(&mut out[len..]);
-        return Answer::Done(len as u32);
-    }
-    clear(out);
-    Answer::Refused(Refusal::NoRoom)
+    finish(out, w.room, w.len)
 }

@@ -28,7 +28,7 @@ fn hash_pieces(bytes: &[u8], ends: &[usize]) {
     for end in ends {
         let piece = black_box(&bytes[start..*end]);
         // SAFETY: The piece has as many bytes as the library is told, and the digest 32.
-        black_box(unsafe { mijdegen_digest(piece.as_ptr(), piece.len(), digest.as_mut_ptr()) });
+        black_box(unsafe { mijdegen_digest(piece.as_ptr(), piece.len(), &mut digest) });
         start = *end;
     }
     black_box(digest);

@@ -2,102 +2,15 @@
 //! list with the crate `independent`.
 
 use super::forge::EMPTY;
-use super::hexadecimal;
 use super::neighbours::{expect_record, Neighbour, NEIGHBOURS};
 use super::sets::{greatest_key, least_key};
 use super::writes::{expect_refusal, expect_table, Call};
+use super::{hexadecimal, Random};
 use independent::sha256;
-use mijdegen::{check, list, lookup, lookup_place, slash, split, Listed, Refusal};
+use mijdegen::{check, list, lookup, lookup_place, slash, split, Listed, Refusal, LONGEST};
+use std::fmt::Debug;
 
-extern "C" {
-    // Outputs of 32 bytes are declared as pointers to bytes, since here they lie within longer
-    // buffers.
-    pub fn mijdegen_digest(input: *const u8, input_len: usize, out: *mut u8) -> u64;
-    pub fn mijdegen_layer(input: *const u8, input_len: usize) -> u64;
-    pub fn mijdegen_slash(key: *const u8, key_len: usize) -> u64;
-    pub fn mijdegen_check(reg: *const u8, reg_len: usize) -> u64;
-    pub fn mijdegen_lookup(reg: *const u8, reg_len: usize, key: *const u8, key_len: usize) -> u64;
-    pub fn mijdegen_list(
-        reg: *const u8,
-        reg_len: usize,
-        n: u64,
-        out: *mut u8,
-        out_len: usize,
-        value: *mut u8,
-    ) -> u64;
-    pub fn mijdegen_at_or_after(
-        reg: *const u8,
-        reg_len: usize,
-        key: *const u8,
-        key_len: usize,
-        out: *mut u8,
-        out_len: usize,
-        value: *mut u8,
-    ) -> u64;
-    pub fn mijdegen_before(
-        reg: *const u8,
-        reg_len: usize,
-        key: *const u8,
-        key_len: usize,
-        out: *mut u8,
-        out_len: usize,
-        value: *mut u8,
-    ) -> u64;
-    pub fn mijdegen_run(
-        reg: *const u8,
-        reg_len: usize,
-        first: *const u8,
-        first_len: usize,
-        last: *const u8,
-        last_len: usize,
-        out: *mut u8,
-        out_len: usize,
-    ) -> u64;
-    pub fn mijdegen_put(
-        reg: *const u8,
-        reg_len: usize,
-        key: *const u8,
-        key_len: usize,
-        value: *const u8,
-        value_len: usize,
-        out: *mut u8,
-        out_len: usize,
-    ) -> u64;
-    pub fn mijdegen_join(
-        reg: *const u8,
-        reg_len: usize,
-        key: *const u8,
-        key_len: usize,
-        value: *const u8,
-        value_len: usize,
-        out: *mut u8,
-        out_len: usize,
-    ) -> u64;
-    pub fn mijdegen_remove(
-        reg: *const u8,
-        reg_len: usize,
-        key: *const u8,
-        key_len: usize,
-        out: *mut u8,
-        out_len: usize,
-    ) -> u64;
-    pub fn mijdegen_merge(
-        first: *const u8,
-        first_len: usize,
-        second: *const u8,
-        second_len: usize,
-        out: *mut u8,
-        out_len: usize,
-    ) -> u64;
-    pub fn mijdegen_difference(
-        first: *const u8,
-        first_len: usize,
-        second: *const u8,
-        second_len: usize,
-        out: *mut u8,
-        out_len: usize,
-    ) -> u64;
-}
+pub use super::c::*;
 
 /// Gives the answer of the C interface: a value times 256, or the number of a refusal.
 pub fn answer(result: Result<usize, u8>) -> u64 {
@@ -105,6 +18,20 @@ pub fn answer(result: Result<usize, u8>) -> u64 {
         Ok(value) => 256 * value as u64,
         Err(number) => u64::from(number),
     }
+}
+
+/// Checks that inputs longer than 4,194,304 bytes are refused, one among them whose length has only
+/// its low 32 bits in common with a short one. Its memory is never written, so the system only sets
+/// addresses aside.
+pub fn expect_long_inputs_refused<T: Debug + PartialEq>(call: fn(&[u8]) -> Result<T, Refusal>) {
+    let bytes = Random::new(4).bytes(2 * LONGEST + 64);
+    // 5 lengths.
+    for more in [1, 2, 64, LONGEST, LONGEST + 64] {
+        let input = &bytes[..LONGEST + more];
+        assert_eq!(call(input), Err(Refusal::TooLong), "length {}", input.len());
+    }
+    #[cfg(target_pointer_width = "64")]
+    assert_eq!(call(&vec![0; (1 << 32) + 3]), Err(Refusal::TooLong));
 }
 
 /// A C function that takes one input and has no output.
@@ -171,7 +98,7 @@ pub fn raw_list(register: &mut [u8], n: u64, out_length: usize) -> (u64, Vec<u8>
             n,
             out.start(),
             out_length,
-            value.start(),
+            value.start().cast(),
         )
     };
     assert!(register == before, "the register was changed");

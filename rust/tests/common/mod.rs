@@ -3,6 +3,8 @@
 // Each test file is compiled with its own copy of this module and may not use all of it.
 #![allow(dead_code)]
 
+#[path = "../../src/c.rs"]
+mod c;
 pub mod calls;
 pub mod forge;
 pub mod lists;

@@ -65,7 +65,7 @@ impl Neighbour {
                 sought.len(),
                 out.start(),
                 out_length,
-                value.start(),
+                value.start().cast(),
             )
         };
         assert!(lent == register, "the register was changed");

@@ -119,6 +119,15 @@ pub fn part(set: &Set, wanted: impl Fn(usize) -> bool) -> Set {
         .collect()
 }
 
+/// Gives all parts of the set, none and all of its records among them. The n-th from the end has the
+/// records that the n-th has not.
+pub fn parts(set: &Set) -> Vec<Set> {
+    let masks = 0..1_usize << set.len();
+    masks
+        .map(|mask| part(set, |n| mask >> n & 1 == 1))
+        .collect()
+}
+
 /// Gives the records of the set whose keys have the layer.
 pub fn of_layer(set: &Set, wanted: u8) -> Set {
     let records = set.iter().filter(|(key, _)| layer(key) == wanted);

@@ -8,12 +8,6 @@ use borrow.Author.Needs.{needs}
 use Rattle.judge.proofs.prefixes_right.Statement.{statement}
 use Rattle.judge.proofs.prefixes_right.Tie as tie
 
-returns : tie.Need-returns
-returns c = search (needs, prefixes-walked)
-
-mul-prefixes-hold : tie.Need-mul-prefixes-hold
-mul-prefixes-hold c = search needs
-
 slice-aggregate-prefixes-hold : tie.Need-slice-aggregate-prefixes-hold
 slice-aggregate-prefixes-hold c =
     let start = c .before .before .before .before .before in
@@ -30,27 +24,6 @@ returns-2 c =
     let a = start .args in
     front-wrong (a .s .now) (a .row .now) (a .st) (start .pre) (a .st .chains / 2) (omega arith) (c .before .prefixes-hold .result) (c .before .prefixes-hold .ensures) (c .if2 .taken)
 
-mul-prefixes-hold-2 : tie.Need-mul-prefixes-hold-2
-mul-prefixes-hold-2 c = search needs
-
-mul-prefixes-hold-3 : tie.Need-mul-prefixes-hold-3
-mul-prefixes-hold-3 c = search needs
-
-sub-prefixes-hold : tie.Need-sub-prefixes-hold
-sub-prefixes-hold c = search needs
-
-part-prefixes-hold-start : tie.Need-part-prefixes-hold-start
-part-prefixes-hold-start c = search needs
-
-part-prefixes-hold-end : tie.Need-part-prefixes-hold-end
-part-prefixes-hold-end c = search needs
-
-sub-prefixes-hold-2 : tie.Need-sub-prefixes-hold-2
-sub-prefixes-hold-2 c = search needs
-
-prefixes-hold-requires-2 : tie.Need-prefixes-hold-requires-2
-prefixes-hold-requires-2 c κs = search needs
-
 returns-3 : tie.Need-returns-3
 returns-3 c =
     let start = c .before .before .before .before .before .before .before .before .before .before in
@@ -61,16 +34,16 @@ pub prefixes-right-spec : {M : Type 1} → statement M
 prefixes-right-spec =
     tie.close
     (tie.spec
-    returns
-    mul-prefixes-hold
+    (λ c. search (needs, prefixes-walked))
+    (λ c. search needs)
     slice-aggregate-prefixes-hold
     prefixes-hold-requires
     returns-2
-    mul-prefixes-hold-2
-    mul-prefixes-hold-3
-    sub-prefixes-hold
-    part-prefixes-hold-start
-    part-prefixes-hold-end
-    sub-prefixes-hold-2
-    prefixes-hold-requires-2
+    (λ c. search needs)
+    (λ c. search needs)
+    (λ c. search needs)
+    (λ c. search needs)
+    (λ c. search needs)
+    (λ c. search needs)
+    (λ c κs. search needs)
     returns-3)

@@ -1,13 +1,7 @@
-use Rattle.calls.specs.Writing.{setOutcome}
+use Rattle.writing.specs.Writing.{setOutcome}
 use borrow.Author.Needs.{needs}
 use Rattle.register.proofs.join.Statement.{statement}
 use Rattle.register.proofs.join.Tie as tie
-
-set-value-requires : tie.Need-set-value-requires
-set-value-requires c κs = search needs
-
-same-length : tie.Need-same-length
-same-length c = search needs
 
 returns : tie.Need-returns
 unfolding setOutcome
@@ -15,4 +9,9 @@ returns c =
     (c .before .before .set-value .ensures .0, c .before .before .set-value .ensures .1)
 
 pub join-spec : {M : Type 1} → statement M
-join-spec = tie.close (tie.spec set-value-requires same-length returns)
+join-spec =
+    tie.close
+    (tie.spec
+    (λ c κs. search needs)
+    (λ c. search needs)
+    returns)

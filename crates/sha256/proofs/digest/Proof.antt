@@ -2,13 +2,11 @@ use Prim.Native.Nat.{_≤_, _<_}
 use native.Mathlib.Omega.{arith}
 use lib.ListN.{length}
 use borrow.Author.Tests.{le-leb, lt-leb}
-use Rattle.sha256.specs.Digest.{longest, digestAnswer, digestOutput}
+use Rattle.limits.specs.Limits.{longest}
+use Rattle.sha256.specs.Digest.{digestAnswer, digestOutput}
 use borrow.Author.Needs.{needs}
 use Rattle.sha256.proofs.digest.Statement.{statement}
 use Rattle.sha256.proofs.digest.Tie as tie
-
-digest-of-requires : tie.Need-digest-of-requires
-digest-of-requires c κs = search needs
 
 returns : tie.Need-returns
 unfolding digestAnswer digestOutput
@@ -21,4 +19,9 @@ returns-2 c = let h : longest < length (c .before .before .before .args .input .
     (rw (lt-leb _ longest h), rw (lt-leb _ longest h))
 
 pub digest-spec : {M : Type 1} → statement M
-digest-spec = tie.close (tie.spec digest-of-requires returns returns-2)
+digest-spec =
+    tie.close
+    (tie.spec
+    (λ c κs. search needs)
+    returns
+    returns-2)

@@ -1,130 +1,60 @@
 use borrow.Author.Needs.{needs}
-use Prim.Native.Nat.{_≤_}
-use mathlib.Core.Path.{sym}
-use mathlib.Core.List.{_++_}
+use Prim.Native.Nat.{_*_, _≤_}
+use mathlib.Core.Path.{sym, _∙_}
 use native.Mathlib.Omega.{arith}
-use lib.ListN.{length, drop}
-use lib.Seq.{length-take-le}
+use lib.ListN.{length}
+use lib.Seq.{length-take-le, length-front}
 use Rattle.tree.specs.Table.{treeOfSet, tableOf}
 use Rattle.row.specs.Row.{recordsOf}
-use Rattle.writer.proofs.Whole.{row-tree, row-ready, WrittenInto, len-small, len-fits, answer-done, output-done, answer-refused, output-refused}
+use Rattle.labels.proofs.Labels.{each-labelled}
+use Rattle.writer.proofs.Whole.{row-tree, row-ready, WrittenInto, len-small, len-fits, answer-is, output-is}
 use Rattle.writer.proofs.write_table.Statement.{statement}
 use Rattle.writer.proofs.write_table.Tie as tie
 use Rattle.writer.proofs.write_table.Reads as reads
 use Rattle.writer.proofs.write_table.Lts as lts
-use Rattle.writer.proofs.output.clear.Reads as clear-reads
-use Rattle.writer.proofs.pages.top_layer.Reads as top-layer-reads
-use Rattle.writer.proofs.pages.write_pages.Reads as write-pages-reads
+use Rattle.writer.proofs.finish.Reads as finish-reads
+use Rattle.writer.proofs.pages.write_page.Reads as write-page-reads
+use Rattle.layout.proofs.runs.top_layer.Reads as top-layer-reads
 use Rattle.writer.proofs.used.Reads as used-reads
 
-into : (c : lts.After-write-pages (top-layer-reads.Asked, top-layer-reads.Learnt, used-reads.Asked, used-reads.Learnt, write-pages-reads.Asked, write-pages-reads.Learnt, clear-reads.Asked, clear-reads.Learnt) reads.Pre reads.Post)
-    → let after-used = c .before .before .before .before in
-    let start = after-used .before .before .before .before .before .before .before .before in
-    let a = start .args in
-    WrittenInto (treeOfSet (recordsOf (a .s .now) (a .u .now) (a .row .now) (a .n))) (a .out .now) (after-used .used .result) (c .write-pages .last .1 .1 .1 .1 .1 .1 .1 .1 .1 .1 .1 .1 .0) (c .write-pages .result)
+into : (c : lts.After-write-page (top-layer-reads.Asked, top-layer-reads.Learnt, used-reads.Asked, used-reads.Learnt, write-page-reads.Asked, write-page-reads.Learnt, finish-reads.Asked, finish-reads.Learnt) reads.Pre reads.Post)
+    → let a = c .before .before .before .before .before .before .before .before .before .before .before .before .before .before .args in
+    WrittenInto (treeOfSet (recordsOf (a .s .now) (a .u .now) (a .row .now) (a .n))) (a .out .now) (c .before .before .before .before .before .before .used .result) (c .write-page .last .1 .1 .1 .1 .1 .1 .1 .1 .1 .1 .0) (c .write-page .result)
 into c =
-    let after-used = c .before .before .before .before in
-    let after-top-layer = after-used .before in
-    let start = after-top-layer .before .before .before .before .before .before .before in
-    let a = start .args in
-    record { used = after-used .used .ensures; written = rw (← row-tree (start .pre .0) (after-top-layer .top-layer .result) (after-top-layer .top-layer .ensures (a .s .now) (a .u .now))) (c .write-pages .ensures .0) }
+    let start = c .before .before .before .before .before .before .before .before .before .before .before .before .before .before in
+    let top = c .before .before .before .before .before .before .before .top-layer in
+    record { used = c .before .before .before .before .before .before .used .ensures; written = rw (← row-tree (start .pre .0) (top .result) (top .ensures (start .args .s .now) (start .args .u .now))) (c .write-page .ensures .0) }
 
-top-layer-requires : tie.Need-top-layer-requires
-top-layer-requires c κs = search needs
-
-used-requires : tie.Need-used-requires
-used-requires c κs = search needs
-
-slice-aggregate-write-pages : tie.Need-slice-aggregate-write-pages
-slice-aggregate-write-pages c = search needs
-
-slice-aggregate-write-pages-2 : tie.Need-slice-aggregate-write-pages-2
-slice-aggregate-write-pages-2 c = search needs
-
-slice-relend-prefix-write-pages : tie.Need-slice-relend-prefix-write-pages
-slice-relend-prefix-write-pages c = search needs
-
-slice-aggregate-write-pages-3 : tie.Need-slice-aggregate-write-pages-3
-slice-aggregate-write-pages-3 c =
-    let after-used = c .before .before .before in
-    let start = after-used .before .before .before .before .before .before .before .before in
-    let h : after-used .used .result ≤ length (start .args .out .now) = omega (arith, after-used .used .ensures) in
-    sym (length-take-le (after-used .used .result) (start .args .out .now) h)
-
-write-pages-requires : tie.Need-write-pages-requires
-write-pages-requires c κs =
-    let start = c .before .before .before .before .before .before .before .before .before .before .before in
-    (row-ready (start .pre .0), start .pre .1, start .pre .2)
-
-sub-clear : tie.Need-sub-clear
-sub-clear c =
-    let after-write-pages = c .before .before .before .before .before in
-    len-fits (into (after-write-pages)) (c .if1 .taken)
-
-part-clear-start : tie.Need-part-clear-start
-part-clear-start c =
-    let after-write-pages = c .before .before .before .before .before in
-    len-fits (into (after-write-pages)) (c .if1 .taken)
-
-part-clear-end : tie.Need-part-clear-end
-part-clear-end c = search needs
-
-clear-requires : tie.Need-clear-requires
-clear-requires c κs = search needs
-
-cast-t30 : tie.Need-cast-t30
-cast-t30 c =
-    let after-if1 = c .before .before .before .before in
-    let after-write-pages = after-if1 .before .before .before .before .before in
-    omega (arith, len-small (into (after-write-pages)) (after-if1 .if1 .taken))
-
-same-length : tie.Need-same-length
-same-length c = search needs
+slice-aggregate-write-page-5 : tie.Need-slice-aggregate-write-page-5
+slice-aggregate-write-page-5 c =
+    let used = c .before .before .before .before .before .used in
+    let o = c .before .before .before .before .before .before .before .before .before .before .before .before .before .args .out .now in
+    let h : used .result ≤ length o = omega (arith, used .ensures) in
+    sym (length-take-le (used .result) o h)
 
 returns : tie.Need-returns
 unfolding tableOf
 returns c =
-    let after-clear = c .before .before in
-    let after-if1 = after-clear .before .before in
-    let after-write-pages = after-if1 .before .before .before .before .before in
-    let w = into after-write-pages in
-    (answer-done w (after-if1 .if1 .taken), output-done w (after-if1 .if1 .taken) (after-clear .clear .last .0) (after-clear .clear .ensures))
-
-clear-requires-2 : tie.Need-clear-requires-2
-clear-requires-2 c κs = search needs
-
-same-length-2 : tie.Need-same-length-2
-same-length-2 c = search needs
-
-returns-2 : tie.Need-returns-2
-unfolding tableOf
-returns-2 c =
-    let after-clear2 = c .before .before in
-    let after-if1 = after-clear2 .before .before in
-    let after-write-pages = after-if1 .before .before .before .before .before in
-    let after-used = after-write-pages .before .before .before .before in
-    let start = after-used .before .before .before .before .before .before .before .before in
-    let w = into after-write-pages in
-    (answer-refused w (after-if1 .if1 .left), output-refused w (after-if1 .if1 .left) (after-write-pages .write-pages .last .1 .1 .1 .1 .1 .1 .1 .1 .1 .1 .1 .1 .0 ++ drop (after-used .used .result) (start .args .out .now)) (after-clear2 .clear2 .last .0) (search needs) (after-clear2 .clear2 .ensures))
+    let end = c .before .before .finish in
+    let w = into (c .before .before .before .before .before .before .before .before) in
+    let o = c .before .before .before .before .before .before .before .before .before .before .before .before .before .before .before .before .before .before .before .before .before .before .args .out .now in
+    (end .ensures .0 ∙ answer-is w, end .ensures .1 ∙ output-is w (length-front o (c .before .before .before .before .before .before .before .before .write-page .last .1 .1 .1 .1 .1 .1 .1 .1 .1 .1 .0) (c .before .before .before .before .before .before .before .before .before .before .before .before .before .before .used .result) (c .before .before .before .before .before .before .before .before .write-page .kept .1 .1 .1 .1 .1 .1 .1 .1 .1 .1 .0)))
 
 pub write-table-spec : {M : Type 1} → statement M
 write-table-spec =
     tie.close
     (tie.spec
-    top-layer-requires
-    used-requires
-    slice-aggregate-write-pages
-    slice-aggregate-write-pages-2
-    slice-relend-prefix-write-pages
-    slice-aggregate-write-pages-3
-    write-pages-requires
-    sub-clear
-    part-clear-start
-    part-clear-end
-    clear-requires
-    cast-t30
-    same-length
-    returns
-    clear-requires-2
-    same-length-2
-    returns-2)
+    (λ c κs. search needs)
+    (λ c κs. search needs)
+    (λ c. search needs)
+    (λ c. search needs)
+    (λ c. sym (length-take-le (2 * c .before .before .before .before .before .before .before .before .before .args .first-count) (c .before .before .before .before .before .before .before .before .before .args .first-chains .now) (c .before .before .before .before .before .before .before .before .before .pre .1 .room)))
+    (λ c. sym (length-take-le (2 * c .before .before .before .before .before .before .before .before .before .before .args .second-count) (c .before .before .before .before .before .before .before .before .before .before .args .second-chains .now) (c .before .before .before .before .before .before .before .before .before .before .pre .2 .room)))
+    (λ c. search needs)
+    (λ c. search needs)
+    (λ c. search needs)
+    slice-aggregate-write-page-5
+    (λ c κs. (row-ready (c .before .before .before .before .before .before .before .before .before .before .before .before .before .pre .0), each-labelled (c .before .before .before .before .before .before .before .before .before .before .before .before .before .pre .1), each-labelled (c .before .before .before .before .before .before .before .before .before .before .before .before .before .pre .2)))
+    (λ c κs e. (len-fits (into (c .before .before .before .before .before)) e, len-small (into (c .before .before .before .before .before)) e))
+    (λ c. search needs)
+    returns)

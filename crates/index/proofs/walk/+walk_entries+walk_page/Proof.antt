@@ -14,16 +14,16 @@ use Rattle.index.proofs.walk.+walk_entries+walk_page.Lts-walk_entries a
 use Rattle.index.proofs.walk.walk_page.Reads as walk-page
 use Rattle.index.proofs.walk.walk_page.Kinds as walk-page-kinds
 use Rattle.index.proofs.walk.+walk_entries+walk_page.Lts-walk_page as walk-page-lts
-use Rattle.index.proofs.buffer.extend.Reads as extend-reads
-use Rattle.index.proofs.buffer.prefix_fits.Reads as prefix-fits-reads
+use Rattle.page_keys.proofs.extend_key.Reads as extend-reads
+use Rattle.page_keys.proofs.prefix_fits.Reads as prefix-fits-reads
 use Rattle.index.proofs.walk.chain_above.Reads as chain-above-reads
 use Rattle.index.proofs.walk.chain_link.Reads as chain-link-reads
 use Rattle.index.proofs.walk.enter.Reads as enter-reads
 use Rattle.index.proofs.walk.leave.Reads as leave-reads
 use Rattle.index.proofs.walk.take_page.Reads as take-page-reads
 use Rattle.index.proofs.walk.take_record.Reads as take-record-reads
-use Rattle.page.proofs.reading.locate_entry.Reads as locate-entry-reads
-use Rattle.page.proofs.reading.read_page.Reads as read-page-reads
+use Rattle.page_reader.proofs.locate_entry.Reads as locate-entry-reads
+use Rattle.page_reader.proofs.read_page.Reads as read-page-reads
 use Rattle.index.proofs.walk.+walk_entries+walk_page.{statement}
 use Rattle.index.proofs.walk.+walk_entries+walk_page.Tie.{close}
 
@@ -125,11 +125,11 @@ walk-entries-prefix-fits-requires t c κs =
     let found = located-is (c .before .before .before .before .before .before .before .before .before .before .before .args .s .now) (c .before .before .before .before .before .before .loop .at) (c .before .before .before .before .locate-entry .ensures) (c .before .before .e .given .1) in
     omega (arith, found .inside, found .within)
 
-walk-entries-slice-aggregate-extend : (t : ℕ) → walk-entries-lts.Need-slice-aggregate-extend (walk-entries-claims t) (walk-entries-at t) walk-entries.Post walk-entries-Inv-loop walk-entries-μ-loop
-walk-entries-slice-aggregate-extend t c = search needs
+walk-entries-slice-aggregate-extend-key : (t : ℕ) → walk-entries-lts.Need-slice-aggregate-extend-key (walk-entries-claims t) (walk-entries-at t) walk-entries.Post walk-entries-Inv-loop walk-entries-μ-loop
+walk-entries-slice-aggregate-extend-key t c = search needs
 
-walk-entries-extend-requires : (t : ℕ) → walk-entries-lts.Need-extend-requires (walk-entries-claims t) (walk-entries-at t) walk-entries.Post walk-entries-Inv-loop walk-entries-μ-loop
-walk-entries-extend-requires t c κs =
+walk-entries-extend-key-requires : (t : ℕ) → walk-entries-lts.Need-extend-key-requires (walk-entries-claims t) (walk-entries-at t) walk-entries.Post walk-entries-Inv-loop walk-entries-μ-loop
+walk-entries-extend-key-requires t c κs =
     let found = located-is (c .before .before .before .before .before .before .before .before .before .before .before .before .before .args .s .now) (c .before .before .before .before .before .before .before .before .loop .at) (c .before .before .before .before .before .before .locate-entry .ensures) (c .before .before .before .before .e .given .1) in
     (omega (arith, found .inside, found .within), found .shares, found .size)
 
@@ -168,7 +168,7 @@ walk-entries-loop-again t c =
     let e = taken .before .before .before .before .before .before .before .before .before .before .e .given .0 .0 in
     let found = located-is (a .s .now) (l .at) (taken .before .before .before .before .before .before .before .before .before .before .before .before .locate-entry .ensures) (taken .before .before .before .before .before .before .before .before .before .before .e .given .1) in
     let f = taken .before .before .before .before .before .before .before .prefix-fits in
-    let k = taken .before .before .before .before .before .extend in
+    let k = taken .before .before .before .before .before .extend-key in
     let g = taken .take-record in
     (omega (arith, g .kept, l .inv), omega (arith, l .inv), omega (arith, g .kept, l .inv), onward-none (l .inv .3) more (start .pre .1 .1) e found (f .result) (f .ensures .0) (f .ensures .1) (k .last .0) (k .result) (k .ensures) (g .last .0) (g .last .1 .0) (g .result) (g .ensures) (omega (arith, k .kept, l .inv .3 .room)) (c .if1 .taken))
 
@@ -186,7 +186,7 @@ walk-entries-walk-page-requires t c κs =
     let e = taken .before .before .before .before .before .before .before .before .before .before .e .given .0 .0 in
     let found = located-is (a .s .now) (l .at) (taken .before .before .before .before .before .before .before .before .before .before .before .before .locate-entry .ensures) (taken .before .before .before .before .before .before .before .before .before .before .e .given .1) in
     let f = taken .before .before .before .before .before .before .before .prefix-fits in
-    let k = taken .before .before .before .before .before .extend in
+    let k = taken .before .before .before .before .before .extend-key in
     let g = taken .take-record in
     let o = onward-record (l .inv .3) more (start .pre .1 .1) e found (f .result) (f .ensures .0) (f .ensures .1) (k .last .0) (k .result) (k .ensures) (g .last .0) (g .last .1 .0) (g .result) (g .ensures) in
     let pre = start .pre in (
@@ -221,7 +221,7 @@ walk-entries-loop-again-2 t c =
     let e = taken .before .before .before .before .before .before .before .before .before .before .e .given .0 .0 in
     let found = located-is (a .s .now) (l .at) (taken .before .before .before .before .before .before .before .before .before .before .before .before .locate-entry .ensures) (taken .before .before .before .before .before .before .before .before .before .before .e .given .1) in
     let f = taken .before .before .before .before .before .before .before .prefix-fits in
-    let k = taken .before .before .before .before .before .extend in
+    let k = taken .before .before .before .before .before .extend-key in
     let g = taken .take-record in
     let w = c .before .before .before .before .before .before .before .before .before .walk-page in
     (omega (arith, w .kept, g .kept, l .inv), omega (arith, w .kept, l .inv), omega (arith, w .kept, g .kept, l .inv), onward-page (l .inv .3) more (start .pre .1 .1) e found (f .result) (f .ensures .0) (f .ensures .1) (k .last .0) (k .result) (k .ensures) (g .last .0) (g .last .1 .0) (g .result) (g .ensures) (omega (arith, k .kept, l .inv .3 .room)) (c .before .before .before .before .before .before .before .before .before .before .before .before .before .if1 .left) (w .last .1 .0) (w .last .1 .1 .0) (w .last .1 .1 .1 .0) (w .result) (c .before .next .given .0 .0) (w .ensures) (c .before .next .given .1))
@@ -251,7 +251,7 @@ walk-entries-returns t c =
     let e = taken .before .before .before .before .before .before .before .before .before .before .e .given .0 .0 in
     let found = located-is (a .s .now) (l .at) (taken .before .before .before .before .before .before .before .before .before .before .before .before .locate-entry .ensures) (taken .before .before .before .before .before .before .before .before .before .before .e .given .1) in
     let f = taken .before .before .before .before .before .before .before .prefix-fits in
-    let k = taken .before .before .before .before .before .extend in
+    let k = taken .before .before .before .before .before .extend-key in
     let g = taken .take-record in
     let w = c .before .before .before .before .before .before .before .before .before .walk-page in
     onward-stopped (l .inv .3) more (start .pre .1 .1) e found (f .result) (f .ensures .0) (f .ensures .1) (k .last .0) (k .result) (k .ensures) (g .last .0) (g .last .1 .0) (g .result) (g .ensures) (c .before .before .before .before .before .before .before .before .before .before .before .before .before .if1 .left) (w .last .1 .0) (w .last .1 .1 .0) (w .last .1 .1 .1 .0) (w .result) (c .before .stop .given .0 .0) (w .ensures) (c .before .stop .given .1)
@@ -608,8 +608,8 @@ pub +walk-entries+walk-page-spec : {M : Type 1} → statement M
     (walk-entries-enum-known-e t)
     (walk-entries-slice-aggregate-prefix-fits t)
     (walk-entries-prefix-fits-requires t)
-    (walk-entries-slice-aggregate-extend t)
-    (walk-entries-extend-requires t)
+    (walk-entries-slice-aggregate-extend-key t)
+    (walk-entries-extend-key-requires t)
     (walk-entries-slice-aggregate-take-record t)
     (walk-entries-take-record-requires t)
     (walk-entries-add-i t)

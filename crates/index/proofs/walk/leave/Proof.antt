@@ -5,26 +5,11 @@ use borrow.Author.Needs.{needs}
 use Rattle.index.proofs.walk.leave.Statement.{statement}
 use Rattle.index.proofs.walk.leave.Tie as tie
 
-enum-known-walked : tie.Need-enum-known-walked
-enum-known-walked c = search needs
-
 sub-records : tie.Need-sub-records
 sub-records c = let a = c .before .before .before .before .before in counted-is (a .args .k) (a .args .from) (a .pre .5) (c .before .before .walked .given .1) .0
 
-add-below : tie.Need-add-below
-add-below c = search needs
-
 sub-below : tie.Need-sub-below
 sub-below c = let a = c .before .before .before .before .before .before in omega (arith, counted-is (a .args .k) (a .args .from) (a .pre .5) (c .before .before .before .walked .given .1))
-
-note-chain-requires : tie.Need-note-chain-requires
-note-chain-requires c κs = search needs
-
-enum-known-walked-2 : tie.Need-enum-known-walked-2
-enum-known-walked-2 c = search needs
-
-same-length : tie.Need-same-length
-same-length c = search needs
 
 returns : tie.Need-returns
 returns c = let a = c .before .before .before .before .before .before .before .before .before .before .args in let q = c .before .before .before .before .before .before .before .walked .given .1 in (sym q, left-is (a .row .now) (a .k) (a .page) (a .link) (a .above) (a .end) (a .from) _ (c .before .before .note-chain .ensures) q)
@@ -39,12 +24,12 @@ pub leave-spec : {M : Type 1} → statement M
 leave-spec =
     tie.close
     (tie.spec
-    enum-known-walked
+    (λ c. search needs)
     sub-records
-    add-below
+    (λ c. search needs)
     sub-below
-    note-chain-requires
-    enum-known-walked-2
-    same-length
+    (λ c κs. search needs)
+    (λ c. search needs)
+    (λ c. search needs)
     returns
     returns-2)

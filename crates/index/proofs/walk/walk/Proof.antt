@@ -1,22 +1,13 @@
 use native.Mathlib.Omega.{arith}
-use Rattle.page.proofs.Tools.{bytes-of}
+use Rattle.bytestring.proofs.Tools.{bytes-of}
 use Rattle.index.proofs.PageSteps.{walk-says}
 use borrow.Author.Needs.{needs}
 use Rattle.index.proofs.walk.walk.Statement.{statement}
 use Rattle.index.proofs.walk.walk.Tie as tie
 
-slice-aggregate-walk-page : tie.Need-slice-aggregate-walk-page
-slice-aggregate-walk-page c = search needs
-
 walk-page-requires : tie.Need-walk-page-requires
 walk-page-requires c κs =
     (search needs, bytes-of (c .before .before .before .before .before .before .args .s .now) (λ i h. omega (arith, c .before .before .before .before .before .shared-slice-known .given i)), search needs, search needs, search needs, search needs, search needs, search needs, search needs)
-
-same-length : tie.Need-same-length
-same-length c = search needs
-
-same-length-2 : tie.Need-same-length-2
-same-length-2 c = search needs
 
 returns : tie.Need-returns
 returns c =
@@ -27,4 +18,9 @@ returns c =
 pub walk-spec : {M : Type 1} → statement M
 walk-spec =
     tie.close
-    (tie.spec slice-aggregate-walk-page walk-page-requires same-length same-length-2 returns)
+    (tie.spec
+    (λ c. search needs)
+    walk-page-requires
+    (λ c. search needs)
+    (λ c. search needs)
+    returns)

@@ -10,19 +10,17 @@ returns c =
     let a = c .before .args in
     no-room (a .out .now) (a .out .now) (a .at) _ refl (omega arith)
 
-slice-write-out : tie.Need-slice-write-out
-slice-write-out c = search needs
-
-add-t4 : tie.Need-add-t4
-add-t4 c = search needs
-
-same-length : tie.Need-same-length
-same-length c = search needs
-
 returns-2 : tie.Need-returns-2
 returns-2 c =
     let a = c .before .args in
     adds-byte (a .out .now) (a .at) (a .byte) (omega arith)
 
 pub add-byte-spec : {M : Type 1} → statement M
-add-byte-spec = tie.close (tie.spec returns slice-write-out add-t4 same-length returns-2)
+add-byte-spec =
+    tie.close
+    (tie.spec
+    returns
+    (λ c. search needs)
+    (λ c. search needs)
+    (λ c. search needs)
+    returns-2)

@@ -21,50 +21,23 @@ loop-holds c =
     let a = c .before .before .before .args in
     (search needs, search needs, search needs, search needs, search needs, fresh-zeros (a .s .now) (a .s .now) _ 64 (search needs), lines-begin (a .s .now) (a .index .now) (a .out .now) (a .at))
 
-mul-add-line : tie.Need-mul-add-line Inv-loop μ-loop
-mul-add-line c = search needs
-
-shared-slice-read-add-line : tie.Need-shared-slice-read-add-line Inv-loop μ-loop
-shared-slice-read-add-line c = search needs
-
-slice-aggregate-add-line : tie.Need-slice-aggregate-add-line Inv-loop μ-loop
-slice-aggregate-add-line c = search needs
-
-slice-aggregate-add-line-2 : tie.Need-slice-aggregate-add-line-2 Inv-loop μ-loop
-slice-aggregate-add-line-2 c = search needs
-
 add-line-requires : tie.Need-add-line-requires Inv-loop μ-loop
 add-line-requires c κs =
     let l = c .before .before .before .before .before .loop in
     (l .inv .4 .first, l .inv .4 .stands (l .i) (c .before .before .before .before .loop-test .taken), l .inv .5, l .inv .3)
 
-enum-known-past : tie.Need-enum-known-past Inv-loop μ-loop
-enum-known-past c = search needs
-
 enum-told : tie.Need-enum-told Inv-loop μ-loop
 enum-told c = search needs
-
-same-length : tie.Need-same-length Inv-loop μ-loop
-same-length c = search needs
 
 returns : tie.Need-returns Inv-loop μ-loop
 returns c =
     let l = c .before .before .before .before .before .before .before .before .before .before .before .before .loop in
     lines-short _ _ _ _ _ _ _ (l .inv .6) _ (l .inv .0) (c .before .before .before .before .before .before .before .before .before .before .before .loop-test .taken) (l .inv .4 .room) _ _ _ _ (c .before .before .before .before .before .before .add-line .ensures) (c .enum-told .given .1)
 
-add-i : tie.Need-add-i Inv-loop μ-loop
-add-i c = search needs
-
-loop-less : tie.Need-loop-less Inv-loop μ-loop
-loop-less c = search needs
-
 loop-again : tie.Need-loop-again Inv-loop μ-loop
 loop-again c =
     let l = c .before .before .before .before .before .before .before .before .before .before .before .before .before .loop in
     (search needs, search needs, search needs, search needs, search needs, c .before .before .before .before .before .before .before .add-line .ensures .remembers, lines-more _ _ _ _ _ _ _ (l .inv .6) _ (l .inv .0) (c .before .before .before .before .before .before .before .before .before .before .before .before .loop-test .taken) (l .inv .4 .room) _ _ _ _ (c .before .before .before .before .before .before .before .add-line .ensures) _ (c .before .past .given .1))
-
-same-length-2 : tie.Need-same-length-2 Inv-loop μ-loop
-same-length-2 c = search needs
 
 returns-2 : tie.Need-returns-2 Inv-loop μ-loop
 returns-2 c =
@@ -78,17 +51,17 @@ add-lines-spec =
     Inv-loop
     μ-loop
     loop-holds
-    mul-add-line
-    shared-slice-read-add-line
-    slice-aggregate-add-line
-    slice-aggregate-add-line-2
+    (λ c. search needs)
+    (λ c. search needs)
+    (λ c. search needs)
+    (λ c. search needs)
     add-line-requires
-    enum-known-past
+    (λ c. search needs)
     enum-told
-    same-length
+    (λ c. search needs)
     returns
-    add-i
-    loop-less
+    (λ c. search needs)
+    (λ c. search needs)
     loop-again
-    same-length-2
+    (λ c. search needs)
     returns-2)

@@ -6,12 +6,6 @@ use Rattle.promises.specs.Listing.{hexDigit}
 use Rattle.listing.proofs.text.hex_digit.Statement.{statement}
 use Rattle.listing.proofs.text.hex_digit.Tie as tie
 
-add-result : tie.Need-add-result
-add-result c = search needs
-
-add-result-2 : tie.Need-add-result-2
-add-result-2 c = search needs
-
 returns : tie.Need-returns
 unfolding hexDigit
 returns c =
@@ -25,4 +19,10 @@ returns-2 c =
     rw (le-ltb (c .before .args .n) 10 k)
 
 pub hex-digit-spec : {M : Type 1} → statement M
-hex-digit-spec = tie.close (tie.spec add-result add-result-2 returns returns-2)
+hex-digit-spec =
+    tie.close
+    (tie.spec
+    (λ c. search needs)
+    (λ c. search needs)
+    returns
+    returns-2)

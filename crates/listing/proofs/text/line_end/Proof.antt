@@ -18,9 +18,6 @@ returns c =
     let a = c .before .before .args in
     no-line-end (a .s .now) (a .at) _ (omega arith)
 
-sub-if2 : tie.Need-sub-if2 Inv-loop μ-loop
-sub-if2 c = search needs
-
 returns-2 : tie.Need-returns-2 Inv-loop μ-loop
 returns-2 c =
     let a = c .before .before .before .args in
@@ -31,47 +28,17 @@ loop-holds c =
     let a = c .before .before .before .args in
     (search needs, search needs, search needs, digits-begin (a .s .now) (a .at) (replicate 66 0x20) refl)
 
-add-byte : tie.Need-add-byte Inv-loop μ-loop
-add-byte c = search needs
-
-shared-slice-read-byte : tie.Need-shared-slice-read-byte Inv-loop μ-loop
-shared-slice-read-byte c = search needs
-
 hex-digit-requires : tie.Need-hex-digit-requires Inv-loop μ-loop
 hex-digit-requires c κs =
     let l = c .before .before .loop in
     let a = c .before .before .before .before .before .before .args in
     omega (arith, c .before .before .before .before .before .shared-slice-known .given (a .at + l .i))
 
-mul-text : tie.Need-mul-text Inv-loop μ-loop
-mul-text c = search needs
-
-add-text : tie.Need-add-text Inv-loop μ-loop
-add-text c = search needs
-
-array-write-text : tie.Need-array-write-text Inv-loop μ-loop
-array-write-text c = search needs
-
 hex-digit-requires-2 : tie.Need-hex-digit-requires-2 Inv-loop μ-loop
 hex-digit-requires-2 c κs =
     let l = c .before .before .before .loop in
     let a = c .before .before .before .before .before .before .before .args in
     omega (arith, c .before .before .before .before .before .before .shared-slice-known .given (a .at + l .i))
-
-mul-text-2 : tie.Need-mul-text-2 Inv-loop μ-loop
-mul-text-2 c = search needs
-
-add-text-2 : tie.Need-add-text-2 Inv-loop μ-loop
-add-text-2 c = search needs
-
-array-write-text-2 : tie.Need-array-write-text-2 Inv-loop μ-loop
-array-write-text-2 c = search needs
-
-add-i : tie.Need-add-i Inv-loop μ-loop
-add-i c = search needs
-
-loop-less : tie.Need-loop-less Inv-loop μ-loop
-loop-less c = search needs
 
 loop-again : tie.Need-loop-again Inv-loop μ-loop
 loop-again c =
@@ -82,9 +49,6 @@ loop-again c =
       search needs,
       digits-turn (a .s .now) (a .at) (l .text) (l .i) (l .inv .3) (omega arith) (omega arith) _ _ (c .before .hex-digit .ensures) (c .hex-digit2 .ensures),
     )
-
-array-write-text-3 : tie.Need-array-write-text-3 Inv-loop μ-loop
-array-write-text-3 c = search needs
 
 returns-3 : tie.Need-returns-3 Inv-loop μ-loop
 returns-3 c =
@@ -99,21 +63,21 @@ line-end-spec =
     Inv-loop
     μ-loop
     returns
-    sub-if2
+    (λ c. search needs)
     returns-2
     loop-holds
-    add-byte
-    shared-slice-read-byte
+    (λ c. search needs)
+    (λ c. search needs)
     hex-digit-requires
-    mul-text
-    add-text
-    array-write-text
+    (λ c. search needs)
+    (λ c. search needs)
+    (λ c. search needs)
     hex-digit-requires-2
-    mul-text-2
-    add-text-2
-    array-write-text-2
-    add-i
-    loop-less
+    (λ c. search needs)
+    (λ c. search needs)
+    (λ c. search needs)
+    (λ c. search needs)
+    (λ c. search needs)
     loop-again
-    array-write-text-3
+    (λ c. search needs)
     returns-3)

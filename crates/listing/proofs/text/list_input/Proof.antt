@@ -1,15 +1,9 @@
 use borrow.Author.Needs.{needs}
 use native.Mathlib.Omega.{arith}
-use Rattle.page.proofs.Tools.{bytes-of}
+use Rattle.bytestring.proofs.Tools.{bytes-of}
 use Rattle.listing.proofs.Verdicts.{wrote-whole, never-short}
 use Rattle.listing.proofs.text.list_input.Statement.{statement}
 use Rattle.listing.proofs.text.list_input.Tie as tie
-
-write-listing-requires : tie.Need-write-listing-requires
-write-listing-requires c κs = search needs
-
-enum-known-length : tie.Need-enum-known-length
-enum-known-length c = search needs
 
 enum-told : tie.Need-enum-told
 enum-told c = search needs
@@ -29,4 +23,10 @@ returns-2 c =
 
 pub list-input-spec : {M : Type 1} → statement M
 list-input-spec =
-    tie.close (tie.spec write-listing-requires enum-known-length enum-told returns returns-2)
+    tie.close
+    (tie.spec
+    (λ c κs. search needs)
+    (λ c. search needs)
+    enum-told
+    returns
+    returns-2)

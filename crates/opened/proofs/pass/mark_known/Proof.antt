@@ -3,10 +3,10 @@ use Prim.Native.Nat.{_-_, _≤_}
 use mathlib.Core.Path.{_≡_, refl, ap, _∙_}
 use native.Mathlib.Omega.{arith}
 use lib.ListN.{length}
+use Rattle.bytestring.proofs.Tools.{bytes-of}
 use Rattle.fips180.proofs.Laws.{length-sha256}
-use Rattle.page.proofs.Tools.{bytes-of}
 use Rattle.tree.specs.Table.{bytesOfPage}
-use Rattle.opened.proofs.Labels.{row-few}
+use Rattle.known.proofs.Labels.{row-few}
 use Rattle.opened.proofs.Parts.{some-chains, some-marks, later-marks, TakenTo, first-taken, next-taken, all-taken, stopped}
 use Rattle.opened.proofs.pass.mark_known.Statement.{statement}
 use Rattle.opened.proofs.pass.mark_known.Tie as tie
@@ -18,30 +18,11 @@ Inv-loop s known n u chains m marks₀ root top heads₀ words₀ done₀ opens�
 abbrev μ-loop : tie.MeasureT-loop
 μ-loop s known n u chains m marks₀ root top heads₀ words₀ done₀ opens₀ marks heads words done opens = n - done
 
-root-digest-requires : tie.Need-root-digest-requires Inv-loop μ-loop
-root-digest-requires c κs = search needs
-
-root-digest-requires-2 : tie.Need-root-digest-requires-2 Inv-loop μ-loop
-root-digest-requires-2 c κs = search needs
-
 begin-marks-requires : tie.Need-begin-marks-requires Inv-loop μ-loop
 begin-marks-requires c κs =
     let a = c .before .before .before .before .before .before .before .before .args in
-    let bytes = bytes-of (a .s .now) (λ i h. omega (arith, c .before .before .before .before .before .before .before .shared-slice-known .given i)) in
     let others = bytes-of (a .u .now) (λ i h. omega (arith, c .before .before .before .before .before .shared-slice-known3 .given i)) in
     (search needs, search needs, λ i h. row-few (a .u .now) (a .chains .now) (a .m) i h (some-chains (a .u .now) (a .chains .now) (a .m) others (c .before .before .before .before .before .before .before .before .pre .1)))
-
-slice-aggregate-take-part : tie.Need-slice-aggregate-take-part Inv-loop μ-loop
-slice-aggregate-take-part c = search needs
-
-slice-aggregate-take-part-2 : tie.Need-slice-aggregate-take-part-2 Inv-loop μ-loop
-slice-aggregate-take-part-2 c = search needs
-
-slice-aggregate-take-part-3 : tie.Need-slice-aggregate-take-part-3 Inv-loop μ-loop
-slice-aggregate-take-part-3 c = search needs
-
-slice-aggregate-take-part-4 : tie.Need-slice-aggregate-take-part-4 Inv-loop μ-loop
-slice-aggregate-take-part-4 c = search needs
 
 take-part-requires : tie.Need-take-part-requires Inv-loop μ-loop
 take-part-requires c κs =
@@ -53,17 +34,12 @@ take-part-requires c κs =
 loop-holds : tie.Need-loop-holds Inv-loop μ-loop
 loop-holds c =
     let a = c .before .before .before .before .before .before .before .before .before .before .before .before .before .before .before .before .before .before .before .before .before .args in
-    let bytes = bytes-of (a .s .now) (λ i h. omega (arith, c .before .before .before .before .before .before .before .before .before .before .before .before .before .before .before .before .before .before .before .before .shared-slice-known .given i)) in
-    let others = bytes-of (a .u .now) (λ i h. omega (arith, c .before .before .before .before .before .before .before .before .before .before .before .before .before .before .before .before .before .before .shared-slice-known3 .given i)) in
     let p = c .before .before .before .before .take-part in
     let w = c .before .before .before .before .before .before .before .before .before .before .before .before .before .before .before .before .before .before .before .before .before .pre in
     let begun-kept = c .before .before .before .before .before .before .before .before .before .before .before .before .begin-marks .kept in
     let taken-kept = p .kept in
     let fits = w .2 in
     (p .ensures .most, search needs, search needs, search needs, omega arith, ap length (c .before .before .before .before .before .before .before .before .before .before .before .before .before .before .before .root-digest .ensures (w .0 .tree) (w .0 .judged)) ∙ length-sha256 (bytesOfPage (w .0 .tree)), ap length (c .before .before .before .before .before .before .before .before .before .before .before .before .before .before .root-digest2 .ensures (w .1 .tree) (w .1 .judged)) ∙ length-sha256 (bytesOfPage (w .1 .tree)), first-taken (a .s .now) (a .known .now) (a .n) (a .u .now) (a .chains .now) (a .m) (c .before .before .before .before .before .before .before .before .before .before .before .before .before .before .before .root-digest .result) (c .before .before .before .before .before .before .before .before .before .before .before .before .before .before .root-digest2 .result) _ _ (p .result) (c .before .before .before .before .before .before .before .before .before .before .before .before .begin-marks .ensures) (p .ensures))
-
-same-length : tie.Need-same-length Inv-loop μ-loop
-same-length c = search needs
 
 returns : tie.Need-returns Inv-loop μ-loop
 returns c =
@@ -72,18 +48,6 @@ returns c =
     let others = bytes-of (a .u .now) (λ i h. omega (arith, c .before .before .before .before .before .before .before .before .before .before .before .before .before .before .before .before .before .before .before .before .before .shared-slice-known3 .given i)) in
     let l = c .before .before .loop in
     stopped (a .s .now) (a .known .now) (a .n) (a .u .now) (a .chains .now) (a .m) (c .before .before .before .before .before .before .before .before .before .before .before .before .before .before .before .before .before .before .root-digest .result) (c .before .before .before .before .before .before .before .before .before .before .before .before .before .before .before .before .before .root-digest2 .result) (l .marks) (l .done) (l .opens) (l .inv .7) (c .before .before .before .before .before .before .before .before .before .before .before .before .before .before .before .before .before .before .before .before .before .before .before .before .pre .0) (c .before .before .before .before .before .before .before .before .before .before .before .before .before .before .before .before .before .before .before .before .before .before .before .before .pre .1) bytes others (c .before .before .before .before .before .before .before .before .before .before .before .before .before .before .before .before .before .before .root-digest .ensures) (c .before .before .before .before .before .before .before .before .before .before .before .before .before .before .before .before .before .root-digest2 .ensures) (c .if1 .taken)
-
-slice-aggregate-take-part-5 : tie.Need-slice-aggregate-take-part-5 Inv-loop μ-loop
-slice-aggregate-take-part-5 c = search needs
-
-slice-aggregate-take-part-6 : tie.Need-slice-aggregate-take-part-6 Inv-loop μ-loop
-slice-aggregate-take-part-6 c = search needs
-
-slice-aggregate-take-part-7 : tie.Need-slice-aggregate-take-part-7 Inv-loop μ-loop
-slice-aggregate-take-part-7 c = search needs
-
-slice-aggregate-take-part-8 : tie.Need-slice-aggregate-take-part-8 Inv-loop μ-loop
-slice-aggregate-take-part-8 c = search needs
 
 take-part-requires-2 : tie.Need-take-part-requires-2 Inv-loop μ-loop
 take-part-requires-2 c κs =
@@ -99,14 +63,9 @@ loop-less c = omega (arith, c .before .before .before .before .take-part2 .ensur
 loop-again : tie.Need-loop-again Inv-loop μ-loop
 loop-again c =
     let a = c .before .before .before .before .before .before .before .before .before .before .before .before .before .before .before .before .before .before .before .before .before .before .before .before .before .before .before .before .before .before .before .before .before .before .args in
-    let bytes = bytes-of (a .s .now) (λ i h. omega (arith, c .before .before .before .before .before .before .before .before .before .before .before .before .before .before .before .before .before .before .before .before .before .before .before .before .before .before .before .before .before .before .before .before .before .shared-slice-known .given i)) in
-    let others = bytes-of (a .u .now) (λ i h. omega (arith, c .before .before .before .before .before .before .before .before .before .before .before .before .before .before .before .before .before .before .before .before .before .before .before .before .before .before .before .before .before .before .before .shared-slice-known3 .given i)) in
     let l = c .before .before .before .before .before .before .before .before .before .before .before .before .loop in
     let p = c .before .before .before .before .take-part2 in
     (p .ensures .most, search needs, search needs, search needs, search needs, search needs, search needs, next-taken (a .s .now) (a .known .now) (a .n) (a .u .now) (a .chains .now) (a .m) (c .before .before .before .before .before .before .before .before .before .before .before .before .before .before .before .before .before .before .before .before .before .before .before .before .before .before .before .before .root-digest .result) (c .before .before .before .before .before .before .before .before .before .before .before .before .before .before .before .before .before .before .before .before .before .before .before .before .before .before .before .root-digest2 .result) (l .marks) _ (l .done) (l .opens) (p .result) (l .inv .7) (c .before .before .before .before .before .before .before .before .before .before .if1 .left) (p .ensures))
-
-same-length-2 : tie.Need-same-length-2 Inv-loop μ-loop
-same-length-2 c = search needs
 
 returns-2 : tie.Need-returns-2 Inv-loop μ-loop
 returns-2 c =
@@ -122,23 +81,23 @@ mark-known-spec =
     (tie.spec
     Inv-loop
     μ-loop
-    root-digest-requires
-    root-digest-requires-2
+    (λ c κs. search needs)
+    (λ c κs. search needs)
     begin-marks-requires
-    slice-aggregate-take-part
-    slice-aggregate-take-part-2
-    slice-aggregate-take-part-3
-    slice-aggregate-take-part-4
+    (λ c. search needs)
+    (λ c. search needs)
+    (λ c. search needs)
+    (λ c. search needs)
     take-part-requires
     loop-holds
-    same-length
+    (λ c. search needs)
     returns
-    slice-aggregate-take-part-5
-    slice-aggregate-take-part-6
-    slice-aggregate-take-part-7
-    slice-aggregate-take-part-8
+    (λ c. search needs)
+    (λ c. search needs)
+    (λ c. search needs)
+    (λ c. search needs)
     take-part-requires-2
     loop-less
     loop-again
-    same-length-2
+    (λ c. search needs)
     returns-2)

@@ -2,16 +2,10 @@ use borrow.Author.Needs.{needs}
 use mathlib.Core.Path.{sym}
 use native.Mathlib.Omega.{arith}
 use lib.Seq.{length-take-le}
-use Rattle.page.proofs.Tools.{bytes-of}
+use Rattle.bytestring.proofs.Tools.{bytes-of}
 use Rattle.opened.proofs.WholePass.{index-room, may-stage, none-opened, some-opened}
 use Rattle.opened.proofs.pass.open_pages.Statement.{statement}
 use Rattle.opened.proofs.pass.open_pages.Tie as tie
-
-slice-aggregate-mark-known : tie.Need-slice-aggregate-mark-known
-slice-aggregate-mark-known c = search needs
-
-mark-known-requires : tie.Need-mark-known-requires
-mark-known-requires c κs = (search needs, search needs, omega (arith, c .before .before .before .before .before .before .before .pre .1 .few), search needs)
 
 returns : tie.Need-returns
 returns c =
@@ -21,9 +15,6 @@ returns c =
     let bytes = bytes-of (a .s .now) (λ i h. omega (arith, c .before .before .before .before .before .before .before .before .before .shared-slice-known .given i)) in
     let others = bytes-of (a .u .now) (λ i h. omega (arith, c .before .before .before .before .before .before .before .shared-slice-known3 .given i)) in
     none-opened (a .s .now) (a .known .now) (a .n) (a .u .now) (a .chains .now) (a .index .now) (a .m) (a .count) bytes others (w .0) (w .1) (w .2) _ (k .result) (k .ensures) (c .if1 .taken) (a .row .now)
-
-slice-aggregate-stage-kept : tie.Need-slice-aggregate-stage-kept
-slice-aggregate-stage-kept c = search needs
 
 slice-aggregate-stage-kept-2 : tie.Need-slice-aggregate-stage-kept-2
 slice-aggregate-stage-kept-2 c = sym (length-take-le (c .before .before .before .before .before .before .before .before .before .before .before .before .args .count) (c .before .before .before .before .before .before .before .before .before .before .before .before .args .index .now) (c .before .before .before .before .before .before .before .before .before .before .before .before .pre .2 .room))
@@ -36,9 +27,6 @@ stage-kept-requires c κs =
     let bytes = bytes-of (a .s .now) (λ i h. omega (arith, c .before .before .before .before .before .before .before .before .before .before .before .before .shared-slice-known .given i)) in
     let others = bytes-of (a .u .now) (λ i h. omega (arith, c .before .before .before .before .before .before .before .before .before .before .shared-slice-known3 .given i)) in
     (index-room (a .u .now) (a .index .now) (a .count) others (w .2) (a .row .now) (w .3), may-stage (a .s .now) (a .known .now) (a .n) (a .u .now) (a .chains .now) (a .index .now) (a .m) (a .count) bytes others (w .0) (w .1) (w .2) _ (k .result) (k .ensures) (c .before .before .before .if1 .left), search needs)
-
-same-length : tie.Need-same-length
-same-length c = search needs
 
 returns-2 : tie.Need-returns-2
 returns-2 c =
@@ -53,11 +41,11 @@ pub open-pages-spec : {M : Type 1} → statement M
 open-pages-spec =
     tie.close
     (tie.spec
-    slice-aggregate-mark-known
-    mark-known-requires
+    (λ c. search needs)
+    (λ c κs. (search needs, search needs, omega (arith, c .before .before .before .before .before .before .before .pre .1 .few), search needs))
     returns
-    slice-aggregate-stage-kept
+    (λ c. search needs)
     slice-aggregate-stage-kept-2
     stage-kept-requires
-    same-length
+    (λ c. search needs)
     returns-2)

@@ -3,23 +3,8 @@ use Rattle.opened.proofs.Parts.{filled-table, part-taken}
 use Rattle.opened.proofs.pass.take_part.Statement.{statement}
 use Rattle.opened.proofs.pass.take_part.Tie as tie
 
-fill-requires : tie.Need-fill-requires
-fill-requires c κs = search needs
-
-lower-marks-requires : tie.Need-lower-marks-requires
-lower-marks-requires c κs = (filled-table (c .before .before .before .before .before .before .before .fill .ensures), search needs, search needs, search needs)
-
 is-known-requires : tie.Need-is-known-requires
 is-known-requires c κs = (filled-table (c .before .before .before .before .before .before .before .before .before .before .before .before .fill .ensures), search needs, search needs)
-
-same-length : tie.Need-same-length
-same-length c = search needs
-
-same-length-2 : tie.Need-same-length-2
-same-length-2 c = search needs
-
-same-length-3 : tie.Need-same-length-3
-same-length-3 c = search needs
 
 returns : tie.Need-returns
 returns c =
@@ -30,10 +15,10 @@ pub take-part-spec : {M : Type 1} → statement M
 take-part-spec =
     tie.close
     (tie.spec
-    fill-requires
-    lower-marks-requires
+    (λ c κs. search needs)
+    (λ c κs. (filled-table (c .before .before .before .before .before .before .before .fill .ensures), search needs, search needs, search needs))
     is-known-requires
-    same-length
-    same-length-2
-    same-length-3
+    (λ c. search needs)
+    (λ c. search needs)
+    (λ c. search needs)
     returns)

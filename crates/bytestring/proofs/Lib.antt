@@ -1,0 +1,4 @@
+pub mod Tools
+pub mod Equal
+pub mod Lending
+pub mod Clearing

@@ -1,9 +1,0 @@
-pub mod Outputs
-pub mod Verdicts
-pub mod Listings
-pub mod Answering
-pub mod Writing
-pub mod Calls
-pub mod Setting
-pub mod Differing
-pub mod Ranges

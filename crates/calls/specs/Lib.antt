@@ -1,4 +1,0 @@
-pub mod Writing
-pub mod Setting
-pub mod Beside
-pub mod Positions

@@ -1,0 +1,20 @@
+use mathlib.Core.Path.{_∙_}
+use Rattle.choice.specs.Choice.{valueAt}
+use borrow.Author.Needs.{needs}
+use Rattle.choice.proofs.policy.order_of_values.Statement.{statement}
+use Rattle.choice.proofs.policy.order_of_values.Tie as tie
+
+returns : tie.Need-returns
+unfolding valueAt
+returns c = c .compare .ensures ∙ rw (c .before .before .before .before .value-of .ensures (c .before .before .before .before .before .before .before .pre .0), c .before .before .before .value-of2 .ensures (c .before .before .before .before .before .before .before .pre .1))
+
+pub order-of-values-spec : {M : Type 1} → statement M
+order-of-values-spec =
+    tie.close
+    (tie.spec
+    (λ c κs. search needs)
+    (λ c κs. search needs)
+    (λ c. search needs)
+    (λ c. search needs)
+    (λ c κs. search needs)
+    returns)

@@ -1,0 +1,4 @@
+pub mod ChainReads
+pub mod LabelLoops
+pub mod RowLoops
+pub mod Labels

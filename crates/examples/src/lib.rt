@@ -1,0 +1,1 @@
+// The examples of FIPS 180-4, of layers and of trees, as theorems.

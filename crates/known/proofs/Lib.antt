@@ -1,0 +1,6 @@
+pub mod Roots
+pub mod LinkTable
+pub mod ChainRows
+pub mod Labels
+pub mod Filling
+pub mod Opening

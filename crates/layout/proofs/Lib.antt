@@ -1,0 +1,5 @@
+pub mod Bounds
+pub mod Ranges
+pub mod RunEnds
+pub mod Holding
+pub mod Measures

@@ -1,0 +1,3 @@
+pub mod Build
+pub mod Entry
+pub mod Layout

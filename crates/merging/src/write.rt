@@ -1,0 +1,51 @@
+// The table of the records of two rows.
+use answer::Answer;
+use answer::Refusal;
+use choice::choose::Chosen;
+use choice::choose::choose;
+use limits::MOST;
+use writer::write_table;
+use writing::refusal::refuse;
+ghost use mathlib.Core.Path.{_≡_};
+ghost use mathlib.Core.Bool.{true};
+ghost use lib.ListN.{length};
+ghost use Rattle.index.specs.Chain.{Labelled};
+ghost use Rattle.row.specs.Row.{Row};
+ghost use Rattle.promises.specs.Outcome.{answerOf, outputOf};
+ghost use Rattle.choice.specs.Choice.{wovenOf};
+ghost use Rattle.writing.specs.Writing.{written};
+
+// The table of the records of two rows, which stand in two registers with these chains. Where both have a key, the greater value is taken.
+pub fn write_chosen(
+    s: &[u8],
+    u: &[u8],
+    first_chains: &[u64],
+    first_count: usize,
+    second_chains: &[u64],
+    second_count: usize,
+    first: &[u64],
+    n: usize,
+    second: &[u64],
+    m: usize,
+    out: &mut [u8],
+) -> Answer
+    requires { ⌜ Row (now s) (now u) (now first) n × Row (now s) (now u) (now second) m × Labelled (now s) (now «first_chains») «first_count» × Labelled (now u) (now «second_chains») «second_count» ⌝ }
+    ensures answer { λ r. ⌜ r ≡ answerOf (written (wovenOf true (now (s .entry)) (now (u .entry)) (now (first .entry)) n (now (second .entry)) m) (length (now (out .entry)))) ⌝ }
+    ensures output { λ _. ⌜ now (out .exit) ≡ outputOf (written (wovenOf true (now (s .entry)) (now (u .entry)) (now (first .entry)) n (now (second .entry)) m) (length (now (out .entry)))) (length (now (out .entry))) ⌝ }
+{
+    let mut row = [0u64; MOST];
+    match choose(s, u, first, n, second, m, &mut row) {
+        Chosen::Count(count) => write_table(
+            s,
+            u,
+            first_chains,
+            first_count,
+            second_chains,
+            second_count,
+            &row,
+            count,
+            out,
+        ),
+        Chosen::TooMany => refuse(out, Refusal::TooManyRecords),
+    }
+}

@@ -1,0 +1,4 @@
+pub mod Buffers
+pub mod Tests
+pub mod Entries
+pub mod Prefixes

@@ -1,0 +1,4 @@
+pub mod Places
+pub mod PagePlaces
+pub mod Determined
+pub mod Located

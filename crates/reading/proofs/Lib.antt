@@ -1,0 +1,3 @@
+pub mod Verdicts
+pub mod Listings
+pub mod Answering

@@ -1,0 +1,183 @@
+-- What the writing calls answer and write: their tests in order, and the table of their result.
+use Prim.Native.Nat.{ℕ, _≤_, _<_}
+use mathlib.Core.Path.{_≡_, refl, _∙_}
+use mathlib.Core.Bool.{Bool, true, false, _&&_}
+use mathlib.Core.Option.{Option, none, some}
+use mathlib.Core.List.{List, [], _∷_, _++_}
+use native.Mathlib.Omega.{arith}
+use lib.ListN.{length}
+use lib.Dec.{leb}
+use borrow.Author.Tests.{le-leb, lt-leb, eqb-true}
+use borrow.Table.Steps.{cases}
+use Rattle.limits.specs.Limits.{longest, most}
+use Rattle.bytestring.specs.Bytes.{zeros}
+use Rattle.answer.specs.declared.Refusal.{Refusal}
+use Rattle.answer.specs.declared.Refusal.the-variants.{TooManyRecords, UnlawfulKey, KeyAbsent}
+use Rattle.answer.specs.declared.Answer.{Answer}
+use Rattle.answer.specs.declared.Answer.the-variants.{Done, Refused}
+use Rattle.key.specs.Key.{lawful, slashAnswer}
+use Rattle.key.proofs.SlashLaws.{slash-refused}
+use Rattle.value.specs.Value.{isValue}
+use Rattle.tree.specs.Record.{Record, records}
+use Rattle.tree.specs.Table.{SpeltTree, tableOf}
+use Rattle.tree.specs.Judge.{Test, due, refused, accepted, judge}
+use Rattle.writer.specs.Output.{fitsOutput, tableAnswer, tableOutput}
+use Rattle.promises.specs.Map.{find, isThere, remove}
+use Rattle.promises.specs.Outcome.{Outcome, stopped, Plan, roomTest, sizes, settle, carryOut, putPlan, joinPlan, removePlan, onFirst, putOutcome, joinOutcome, removeOutcome, answerOf, outputOf}
+use Rattle.promises.specs.Range.{recordsBetween, runTests, runVerdict, runOutcome}
+use Rattle.promises.proofs.RangeLaws.{between-few}
+use Rattle.choice.specs.Choice.{choiceOf, weave}
+use Rattle.choice.proofs.Weaving.{weave-put, weave-join}
+use Rattle.writing.specs.Tests.{rangeTests, recordTests, answerDue}
+use Rattle.writing.specs.Writing.{written, setOutcome}
+
+-- ---- answer and output
+abbrev pub Says : Outcome → ℕ → Answer → List ℕ → Type 0
+Says o room answer out = (answer ≡ answerOf o) × (out ≡ outputOf o room)
+
+pub refuses : {o : Outcome} {r : Refusal} (room : ℕ) (answer : Answer) (out : List ℕ) → o ≡ stopped r → (answer ≡ Refused r) × (out ≡ zeros room)
+    → Says o room answer out
+unfolding answerOf outputOf
+refuses room answer out e says = (says .0 ∙ rw e, says .1 ∙ rw e)
+
+pub says-same : {o p : Outcome} (room : ℕ) (answer : Answer) (out : List ℕ) → o ≡ p → Says o room answer out → Says p room answer out
+says-same room answer out e says = rw (← e) says
+
+-- ---- the first test that fails decides
+module _ (ts : List Test) where
+  pub test-holds : (r : Refusal) {b : Bool} {x : Answer} → b ≡ true → x ≡ answerDue (due ts) → x ≡ answerDue (due ((r, b) ∷ ts))
+  unfolding due
+  test-holds r e h = rw e h
+
+  pub test-fails : (r : Refusal) {b : Bool} → b ≡ false → Refused r ≡ answerDue (due ((r, b) ∷ ts))
+  unfolding due answerDue
+  test-fails r e = rw e
+
+  pub unlawful-fails : (k : List ℕ) {r : Refusal} → slashAnswer k ≡ Refused r → Refused r ≡ answerDue (due ((UnlawfulKey, lawful k) ∷ ts))
+  unfolding due answerDue
+  unlawful-fails k q = let w = slash-refused k _ q in rw (w .0, w .1)
+
+pub none-due : Done 0 ≡ answerDue (due [])
+unfolding due answerDue
+none-due = refl
+
+pub due-refused : (o : Option Refusal) {x : Answer} {r : Refusal} → x ≡ answerDue o → x ≡ Refused r → o ≡ some r
+unfolding answerDue
+due-refused none e h = let z : _≡_ {A = ℕ} 0 1 = cc in absurd (omega arith)
+due-refused (some q) e h = cc
+
+pub due-done : (o : Option Refusal) {x : Answer} {n : ℕ} → x ≡ answerDue o → x ≡ Done n → o ≡ none
+unfolding answerDue
+due-done none e h = refl
+due-done (some q) e h = let z : _≡_ {A = ℕ} 0 1 = cc in absurd (omega arith)
+
+-- what was tested holds where none is due
+pub test-held : (t : Test) (ts : List Test) → due (t ∷ ts) ≡ none → (t .1 ≡ true) × (due ts ≡ none)
+unfolding due
+test-held t ts e =
+    cases (t .1) (λ h. (h, rw h at e))
+    (λ h. let f : some (t .0) ≡ none = rw h at e in let z : _≡_ {A = ℕ} 0 1 = cc in absurd (omega arith))
+
+pub tested-value : (k v : List ℕ) → due (recordTests k v) ≡ none → length v ≡ 32
+unfolding isValue
+tested-value k v e = eqb-true (length v) 32 (test-held _ _ (test-held _ _ e .1) .0)
+
+pub tested-key : (k v : List ℕ) → due (recordTests k v) ≡ none → lawful k ≡ true
+tested-key k v e = test-held _ _ e .0
+
+-- tests that follow others
+module _ (us : List Test) where
+  due-first : (ts : List Test) {r : Refusal} → due ts ≡ some r → due (ts ++ us) ≡ some r
+  unfolding due
+  due-first [] e = let z : _≡_ {A = ℕ} 0 1 = cc in absurd (omega arith)
+  due-first (t ∷ ts) e = cases (t .1) (λ h. rw h (due-first ts (rw h at e))) (λ h. rw h (rw h at e))
+
+  due-after : (ts : List Test) → due ts ≡ none → due (ts ++ us) ≡ due us
+  unfolding due
+  due-after [] e = refl
+  due-after (t ∷ ts) e = let w = test-held t ts e in rw (w .0) (due-after ts (w .1))
+
+-- ---- the table of a result
+module _ (rs : List Record) (room : ℕ) where
+  pub written-many : most < length rs → written rs room ≡ stopped TooManyRecords
+  unfolding written sizes due settle
+  written-many h = rw (lt-leb (length rs) most h)
+
+  module _ (few : length rs ≤ most) where
+    few-sizes : due (sizes rs room) ≡ due (roomTest rs room ∷ [])
+    unfolding sizes due
+    few-sizes = rw (le-leb (length rs) most few)
+
+    pub written-says : Says (written rs room) room (tableAnswer (tableOf rs) room) (tableOutput (tableOf rs) room)
+    unfolding written due settle tableAnswer tableOutput fitsOutput answerOf outputOf
+    written-says =
+        let t : List ℕ = tableOf rs in
+        rw few-sizes (cases (leb (length t) room && leb (length t) longest) (λ e. rw e (refl, refl)) (λ e. rw e (refl, refl)))
+
+-- ---- the calls that carry out a plan
+module _ (s : List ℕ) (plan : List Record → Plan) (room : ℕ) where
+  pub plan-refused : {r : Refusal} → judge s ≡ refused r → onFirst (judge s) plan room ≡ stopped r
+  unfolding onFirst
+  plan-refused e = rw e
+
+  module _ (t : SpeltTree) (e : judge s ≡ accepted t) where
+    pub plan-stopped : {r : Refusal} → due (plan (records t) .asks) ≡ some r → onFirst (judge s) plan room ≡ stopped r
+    unfolding onFirst carryOut settle
+    plan-stopped q = rw (e, due-first (sizes (plan (records t) .result) room) (plan (records t) .asks) q)
+
+    pub plan-written : due (plan (records t) .asks) ≡ none → written (plan (records t) .result) room ≡ onFirst (judge s) plan room
+    unfolding onFirst carryOut written
+    plan-written q = rw (e, due-after (sizes (plan (records t) .result) room) (plan (records t) .asks) q)
+
+-- ---- put and join
+module _ (g : Bool) (s k v : List ℕ) (room : ℕ) where
+  pub set-refused : {r : Refusal} → judge s ≡ refused r → setOutcome g s k v room ≡ stopped r
+  unfolding setOutcome putOutcome joinOutcome
+  set-refused e = cases g (λ h. rw h (plan-refused s (joinPlan k v) room e)) (λ h. rw h (plan-refused s (putPlan k v) room e))
+
+  module _ (t : SpeltTree) (e : judge s ≡ accepted t) where
+    pub set-stopped : {r : Refusal} → due (recordTests k v) ≡ some r → setOutcome g s k v room ≡ stopped r
+    unfolding setOutcome putOutcome joinOutcome putPlan joinPlan
+    set-stopped q = cases g (λ h. rw h (plan-stopped s (joinPlan k v) room t e q)) (λ h. rw h (plan-stopped s (putPlan k v) room t e q))
+
+    pub set-written : due (recordTests k v) ≡ none
+        → written (weave (choiceOf g) (records t) (record { key = k; val = v } ∷ [])) room ≡ setOutcome g s k v room
+    unfolding setOutcome putOutcome joinOutcome putPlan joinPlan
+    set-written q =
+        cases g (λ h. rw (h, weave-join) (plan-written s (joinPlan k v) room t e q)) (λ h. rw (h, weave-put) (plan-written s (putPlan k v) room t e q))
+
+-- ---- remove
+module _ (s k : List ℕ) (room : ℕ) (t : SpeltTree) (e : judge s ≡ accepted t) where
+  pub remove-unlawful : {r : Refusal} → slashAnswer k ≡ Refused r → removeOutcome s k room ≡ stopped r
+  unfolding removeOutcome removePlan due
+  remove-unlawful q = let w = slash-refused k _ q in plan-stopped s (removePlan k) room t e (rw (w .0, w .1))
+
+  module _ (l : lawful k ≡ true) where
+    pub remove-absent : find k (records t) ≡ none → removeOutcome s k room ≡ stopped KeyAbsent
+    unfolding removeOutcome removePlan due isThere
+    remove-absent n = plan-stopped s (removePlan k) room t e (rw (l, n))
+
+    pub remove-written : (v : List ℕ) → find k (records t) ≡ some v → written (remove k (records t)) room ≡ removeOutcome s k room
+    unfolding removeOutcome removePlan due isThere
+    remove-written v n = plan-written s (removePlan k) room t e (rw (l, n))
+
+-- ---- run
+module _ (s first last : List ℕ) (room : ℕ) where
+  pub run-refused : {r : Refusal} → judge s ≡ refused r → runOutcome s first last room ≡ stopped r
+  unfolding runOutcome runVerdict
+  run-refused e = rw e
+
+  module _ (t : SpeltTree) (e : judge s ≡ accepted t) where
+    abbrev between : List Record
+    between = recordsBetween first last (records t)
+
+    pub run-stopped : {r : Refusal} → due (rangeTests first last) ≡ some r → runOutcome s first last room ≡ stopped r
+    unfolding runOutcome runVerdict runTests settle
+    run-stopped q = rw (e, due-first (roomTest between room ∷ []) (rangeTests first last) q)
+
+    -- 5 is not due, since the register's records are few
+    pub run-written : due (rangeTests first last) ≡ none → length (records t) ≤ most → written between room ≡ runOutcome s first last room
+    unfolding runOutcome runVerdict runTests written
+    run-written q few =
+        let less : length between ≤ most = omega (arith, between-few first last (records t)) in
+        rw (e, few-sizes between room less, due-after (roomTest between room ∷ []) (rangeTests first last) q)

@@ -1,0 +1,21 @@
+-- What put and join have in common, and what is written of a result. Contracts inside the library cite it, and no public contract does.
+use Prim.Native.Nat.{ℕ, _-_}
+use mathlib.Core.Bool.{Bool, true, false}
+use mathlib.Core.List.{List}
+use lib.ListN.{take, drop}
+use Rattle.tree.specs.Record.{Record}
+use Rattle.tree.specs.Judge.{due}
+use Rattle.promises.specs.Outcome.{Outcome, sizes, settle, putOutcome, joinOutcome}
+
+-- What is written of a result, after a call's own tests: only its sizes are tested.
+unfoldable pub written : List Record → ℕ → Outcome
+written rs room = settle (due (sizes rs room)) rs
+
+-- Put, or join.
+unfoldable pub setOutcome : Bool → List ℕ → List ℕ → List ℕ → ℕ → Outcome
+setOutcome false s k v room = putOutcome s k v room
+setOutcome true s k v room = joinOutcome s k v room
+
+-- The records at the positions from low to before high.
+abbrev pub recordsFrom : ℕ → ℕ → List Record → List Record
+recordsFrom low high rs = take (high - low) (drop low rs)
