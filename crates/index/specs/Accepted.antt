@@ -4,6 +4,7 @@ use mathlib.Core.Path.{_≡_}
 use mathlib.Core.Bool.{true}
 use mathlib.Core.List.{List, []}
 use lib.ListN.{length}
+use Rattle.limits.specs.Limits.{most}
 use Rattle.tree.specs.Record.{records}
 use Rattle.tree.specs.Table.{SpeltTree}
 use Rattle.tree.specs.Judge.{accepted, judge}
@@ -23,7 +24,7 @@ pub record ChainRow (s row : List ℕ) (n : ℕ) : Type 0 where
   pub tree : SpeltTree
   pub judged : judge s ≡ accepted tree
   pub size : n ≡ length (chains 0 0 [] tree)
-  pub few : n ≤ 4096
+  pub few : n ≤ most
   pub room : 2 * n ≤ length row
   pub stands : ChainsAt s row 0 (chains 0 0 [] tree)
   pub right : chainsRight (chains 0 0 [] tree) ≡ true

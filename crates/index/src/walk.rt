@@ -1,6 +1,8 @@
 // The walk over a register's pages.
 use crate::words::note;
 use crate::words::note_chain;
+use limits::DEEPEST;
+use limits::LONGEST_KEY;
 use page_keys::extend_key;
 use page_keys::key_is_lawful;
 use page_keys::key_rises;
@@ -17,6 +19,7 @@ ghost use mathlib.Core.Bool.{cond, _&&_};
 ghost use Prim.Native.Nat.{_+_, _^_, _≤_, _<_};
 ghost use lib.ListN.{length};
 ghost use lib.Dec.{eqb};
+ghost use Rattle.limits.specs.Limits.{deepest, longestKey};
 ghost use Rattle.bytestring.specs.Bytes.{Bytes};
 ghost use Rattle.index.specs.Walk.{pageHolds, Taken, PageTaken, Entered, Counted, Left, PageSays, EntriesSay, WalkSays};
 
@@ -69,7 +72,7 @@ fn take_record(
     page: usize,
     at: usize,
 ) -> WalkState
-    requires { ⌜ (length (now buffer) ≡ 256) × (length (now last) ≡ 256) × (page < 2 ^ 24) × (at < 2 ^ 24) × (level < 256) × (st .count < 2 ^ 32) ⌝ }
+    requires { ⌜ (length (now buffer) ≡ longestKey) × (length (now last) ≡ longestKey) × (page < 2 ^ 24) × (at < 2 ^ 24) × (level < 256) × (st .count < 2 ^ 32) ⌝ }
     ensures { λ r. ⌜ Taken (now (index .entry)) (now (last .entry)) level page at (now (buffer .entry)) size fits st r (now (index .exit)) (now (last .exit)) ⌝ }
 {
     let lawful = key_is_lawful(buffer, size);
@@ -184,11 +187,11 @@ fn walk_page(
     above: usize,
     st: WalkState,
 ) -> Walked
-    requires { ⌜ (length (now s) < 2 ^ 24) × Bytes (now s) × (length (now last) ≡ 256) × (st .next ≤ length (now s)) × (st .count ≤ st .next) × (st .chains ≤ st .next) × (level ≤ 129) × (above ≤ level) × (link ≤ length (now s)) ⌝ }
+    requires { ⌜ (length (now s) < 2 ^ 24) × Bytes (now s) × (length (now last) ≡ longestKey) × (st .next ≤ length (now s)) × (st .count ≤ st .next) × (st .chains ≤ st .next) × (level ≤ deepest) × (above ≤ level) × (link ≤ length (now s)) ⌝ }
     ensures { λ r. ⌜ PageSays (now (s .entry)) (now (index .entry)) (now (row .entry)) (now (last .entry)) level link above st r (now (index .exit)) (now (row .exit)) (now (last .exit)) ⌝ }
 {
     let at = st.next;
-    if 129 <= level {
+    if DEEPEST <= level {
         if at < s.len() {
             return Walked::Stopped(Stop::Departs);
         }
@@ -241,10 +244,10 @@ fn walk_entries(
     n: usize,
     st: WalkState,
 ) -> Walked
-    requires { ⌜ (length (now s) < 2 ^ 24) × Bytes (now s) × (length (now last) ≡ 256) × (st .next ≤ length (now s)) × (st .count + n ≤ st .next) × (st .chains ≤ st .next) × (level < 129) × (page ≤ length (now s)) × (first ≤ length (now s)) ⌝ }
+    requires { ⌜ (length (now s) < 2 ^ 24) × Bytes (now s) × (length (now last) ≡ longestKey) × (st .next ≤ length (now s)) × (st .count + n ≤ st .next) × (st .chains ≤ st .next) × (level < deepest) × (page ≤ length (now s)) × (first ≤ length (now s)) ⌝ }
     ensures { λ r. ⌜ EntriesSay (now (s .entry)) (now (index .entry)) (now (row .entry)) (now (last .entry)) level page first n st r (now (index .exit)) (now (row .exit)) (now (last .exit)) ⌝ }
 {
-    let mut buffer = [0u8; 256];
+    let mut buffer = [0u8; LONGEST_KEY];
     let mut size = 0;
     let mut cur = st;
     let mut at = first;
@@ -287,7 +290,7 @@ pub fn walk(s: &[u8], index: &mut [u64], row: &mut [u64]) -> Walked
     requires { ⌜ length (now s) < 2 ^ 24 ⌝ }
     ensures { λ r. ⌜ WalkSays (now (s .entry)) r (now (index .exit)) (now (row .exit)) ⌝ }
 {
-    let mut last = [0u8; 256];
+    let mut last = [0u8; LONGEST_KEY];
     let st = WalkState {
         next: 0,
         count: 0,

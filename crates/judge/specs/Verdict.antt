@@ -4,7 +4,7 @@ use mathlib.Core.Path.{_≡_}
 use mathlib.Core.Bool.{Bool}
 use mathlib.Core.List.{List}
 use lib.ListN.{length}
-use Rattle.limits.specs.Limits.{most}
+use Rattle.limits.specs.Limits.{most, shortestEntry}
 use Rattle.tree.specs.Judge.{prefixesRight, refused, judge}
 use Rattle.index.specs.Walk.{Walks}
 use Rattle.index.specs.Accepted.{AcceptedIndex, ChainRow}
@@ -18,7 +18,7 @@ PrefixesSay s row st r = (index : List ℕ) (w : Walks s index row st) → st .c
 
 -- So many words are room for the records of every register as long as s, with `each` words for one: an entry has at least 53 bytes.
 abbrev pub RoomFor : List ℕ → ℕ → ℕ → Type 0
-RoomFor s each words = (k : ℕ) → k ≤ most → 53 * k ≤ length s → each * k ≤ words
+RoomFor s each words = (k : ℕ) → k ≤ most → shortestEntry * k ≤ length s → each * k ≤ words
 
 abbrev pub RegisterSays : List ℕ → Register → List ℕ → List ℕ → Type 0
 RegisterSays s (Accepted count n) index row = AcceptedIndex s index count × ChainRow s row n

@@ -5,6 +5,7 @@ use mathlib.Core.Bool.{cond}
 use mathlib.Core.List.{List, [], _∷_, _++_}
 use lib.ListN.{length, take, getD}
 use lib.Dec.{eqb}
+use Rattle.limits.specs.Limits.{most, deepest}
 use Rattle.value.specs.Value.{digestLength, digestIn}
 use Rattle.word.specs.Word.{pageIn, linkIn, aboveIn}
 use Rattle.index.specs.Chain.{Chain, ChainWords, noChain}
@@ -22,10 +23,10 @@ Nested (c ∷ cs) = (c .below ≤ length cs) × Inside (take (c .below) cs) × N
 -- The first 2n words of the row are those of these chains. No chain has more than 129 labels.
 pub record Chained (s row : List ℕ) (n : ℕ) (cs : List Chain) : Type 0 where
   pub size : length cs ≡ n
-  pub few : n ≤ 4096
+  pub few : n ≤ most
   pub room : 2 * n ≤ length row
   pub words : (i : ℕ) → i < n → ChainWords s (getD row (2 * i) 0) (getD row (2 * i + 1) 0) (getD cs i noChain)
-  pub short : (i : ℕ) → i < n → length (getD cs i noChain .labels) ≤ 129
+  pub short : (i : ℕ) → i < n → length (getD cs i noChain .labels) ≤ deepest
   pub nested : Nested cs
 
 -- The words are those of some chains.

@@ -6,6 +6,7 @@ use mathlib.Core.Option.{Option}
 use mathlib.Core.List.{List}
 use lib.ListN.{length, take}
 use lib.Dec.{leb}
+use Rattle.limits.specs.Limits.{longestKey}
 use Rattle.bytestring.specs.Bytes.{front}
 use Rattle.page.specs.Page.{entryBytes}
 use Rattle.page_writer.specs.Front.{linkIf, entryLength, entryAfter}
@@ -23,8 +24,8 @@ pub record Asks (s u : List ℕ) (word : ℕ) : Type 0 where
 pub record Holding (s u keys notes previous : List ℕ) (held : ℕ) : Type 0 where
   pub memory : Remembers s u keys notes
   pub slots : length notes ≡ 128
-  pub room : length previous ≡ 256
-  pub fits : held ≤ 256
+  pub room : length previous ≡ longestKey
+  pub fits : held ≤ longestKey
 
 -- The key of a word's record is held.
 pub record KeyHeld (s u : List ℕ) (word : ℕ) (keys notes held : List ℕ) (size : ℕ) : Type 0 where

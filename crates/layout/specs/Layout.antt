@@ -4,6 +4,7 @@ use mathlib.Core.Path.{_≡_}
 use mathlib.Core.Bool.{Bool, true, false}
 use mathlib.Core.List.{List, []}
 use lib.ListN.{length, getD}
+use Rattle.limits.specs.Limits.{most}
 use Rattle.word.specs.Word.{layerIn}
 use Rattle.page_writer.specs.Front.{numberLength, gapLength}
 use Rattle.tree.specs.Tree.{Entries}
@@ -36,7 +37,7 @@ hasPage (suc n) (suc m) = true
 -- The length of a page's entries.
 pub record EntriesSized (es : Entries Record (List ℕ)) (len : ℕ) : Type 0 where
   pub is : len ≡ length (entriesBytes [] es)
-  pub small : len ≤ 400 * 4096
+  pub small : len ≤ 400 * most
 
 -- What the start and the end of a page take.
 abbrev pub ends : Size → Bool → ℕ
@@ -47,6 +48,6 @@ ends r linked = 3 + numberLength (r .count) + (2 + gapLength linked)
 pub record Sized (s u row : List ℕ) (lo hi n room : ℕ) (r : Size) : Type 0 where
   pub run : Run row n lo hi (r .first)
   pub counted : r .count ≡ countOf [] (entriesAt n (recordIn s u row) (r .first) hi)
-  pub few : r .count ≤ 4096
+  pub few : r .count ≤ most
   pub leaf : n ≡ 0 → r .own ≡ max room (ends r (hasPage n (r .first - lo)))
   pub inner : (n ≡ 0 → ⊥) → r .own ≡ ends r (hasPage n (r .first - lo)) + length (entriesBytes [] (entriesAt n (recordIn s u row) (r .first) hi))

@@ -10,6 +10,7 @@ ghost use mathlib.Core.Path.{_≡_};
 ghost use Prim.Native.Nat.{_+_, _≤_};
 ghost use lib.ListN.{length, take, drop};
 ghost use lib.Dec.{leb};
+ghost use Rattle.limits.specs.Limits.{longestKey};
 ghost use Rattle.bytestring.specs.Bytes.{front};
 ghost use Rattle.page.specs.Page.{entryBytes};
 ghost use Rattle.page_writer.specs.Front.{linkIf, entryLength, entryAfter};
@@ -35,7 +36,7 @@ pub fn hold(previous: &mut [u8], keys: &[u8], from: usize, size: usize)
 
 // The length of the entry of the key at this place, after the previous key.
 pub fn length_after(previous: &[u8], keys: &[u8], from: usize, size: usize, linked: bool) -> usize
-    requires { ⌜ (from + size ≤ length (now keys)) × (size ≤ 256) ⌝ }
+    requires { ⌜ (from + size ≤ length (now keys)) × (size ≤ longestKey) ⌝ }
     ensures { λ r. ⌜ (r ≡ entryLength (now (previous .entry)) (take size (drop from (now (keys .entry)))) linked) × (r ≤ 400) ⌝ }
 {
     entry_length(previous, &keys[from..from + size], linked)
@@ -50,7 +51,7 @@ fn fits_after(
     linked: bool,
     room: usize,
 ) -> bool
-    requires { ⌜ (from + size ≤ length (now keys)) × (size ≤ 256) ⌝ }
+    requires { ⌜ (from + size ≤ length (now keys)) × (size ≤ longestKey) ⌝ }
     ensures { λ r. ⌜ r ≡ leb (entryLength (now (previous .entry)) (take size (drop from (now (keys .entry)))) linked) room ⌝ }
 {
     if LONGEST_ENTRY <= room {
@@ -70,7 +71,7 @@ fn write_after(
     link: Digest,
     value: Value,
 ) -> usize
-    requires { ⌜ (from + size ≤ length (now keys)) × (size ≤ 256) × (entryLength (now previous) (take size (drop from (now keys))) linked ≤ length (now out)) ⌝ }
+    requires { ⌜ (from + size ≤ length (now keys)) × (size ≤ longestKey) × (entryLength (now previous) (take size (drop from (now keys))) linked ≤ length (now out)) ⌝ }
     ensures output { λ _. ⌜ now (out .exit) ≡ front (entryBytes (entryAfter (now (previous .entry)) (take size (drop from (now (keys .entry)))) (linkIf linked link) value)) (now (out .entry)) ⌝ }
     ensures count { λ r. ⌜ r ≡ entryLength (now (previous .entry)) (take size (drop from (now (keys .entry)))) linked ⌝ }
 {

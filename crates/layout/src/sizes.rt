@@ -5,6 +5,7 @@ use crate::runs::count_entries;
 use crate::runs::has_page;
 use crate::runs::higher;
 use crate::runs::run_end;
+use limits::LONGEST_KEY;
 use page_writer::page_end_length;
 use page_writer::page_start_length;
 use row::recall::recall;
@@ -38,7 +39,7 @@ fn measure_entries(
     ensures size { λ r. ⌜ EntriesSized (entriesAt layer (recordIn (now (s .entry)) (now (u .entry)) (now (row .entry))) first hi) r ⌝ }
     ensures memory { λ _. ⌜ Remembers (now (s .entry)) (now (u .entry)) (now (keys .exit)) (now (notes .exit)) ⌝ }
 {
-    let mut previous = [0u8; 256];
+    let mut previous = [0u8; LONGEST_KEY];
     let mut held = 0;
     let mut len = 0;
     let mut i = first;

@@ -4,6 +4,7 @@ use known::is_known;
 use known::label_count;
 use known::open_labels;
 use known::root_digest;
+use limits::MOST;
 use word::below_in;
 use word::from_in;
 use word::records_in;
@@ -13,6 +14,7 @@ ghost use mathlib.Core.Bool.{cond};
 ghost use mathlib.Core.List.{List};
 ghost use Prim.Native.Nat.{ℕ, _+_, _*_, _^_, _≤_, _<_};
 ghost use lib.ListN.{length, getD};
+ghost use Rattle.limits.specs.Limits.{deepest, longest};
 ghost use Rattle.value.specs.Value.{digestLength};
 ghost use Rattle.tree.specs.Table.{SpeltTree};
 ghost use Rattle.tree.specs.Judge.{accepted, judge};
@@ -35,7 +37,7 @@ fn passed_over(word: u64, closed: bool) -> usize
 
 // At first no page is known.
 fn begin_marks(chains: &[u64], m: usize, marks: &mut [u8])
-    requires { ⌜ (2 * m ≤ length (now chains)) × (m ≤ length (now marks)) × ((i : ℕ) → i < m → labelCount (getD (now chains) (2 * i) 0) ≤ 129) ⌝ }
+    requires { ⌜ (2 * m ≤ length (now chains)) × (m ≤ length (now marks)) × ((i : ℕ) → i < m → labelCount (getD (now chains) (2 * i) 0) ≤ deepest) ⌝ }
     ensures { λ _. ⌜ ((i : ℕ) → i < m → getD (now (marks .exit)) i 0 ≡ labelCount (getD (now (chains .entry)) (2 * i) 0)) ⌝ }
 {
     let mut i = 0;
@@ -112,7 +114,7 @@ fn mark_known(
     m: usize,
     marks: &mut [u8],
 ) -> bool
-    requires { ⌜ ChainRow (now s) (now known) n × ChainRow (now u) (now chains) m × (m ≤ length (now marks)) × (length (now s) ≤ 4194304) ⌝ }
+    requires { ⌜ ChainRow (now s) (now known) n × ChainRow (now u) (now chains) m × (m ≤ length (now marks)) × (length (now s) ≤ longest) ⌝ }
     ensures { λ r. ⌜ ((t v : SpeltTree) → judge (now (s .entry)) ≡ accepted t → judge (now (u .entry)) ≡ accepted v → AllMarked t v (now (marks .exit)) r) ⌝ }
 {
     let root = root_digest(s);
@@ -220,10 +222,10 @@ pub fn open_pages(
     count: usize,
     row: &mut [u64],
 ) -> Opening
-    requires { ⌜ ChainRow (now s) (now known) n × ChainRow (now u) (now chains) m × AcceptedIndex (now u) (now index) count × (count ≤ length (now row)) × (length (now s) ≤ 4194304) × (length (now u) ≤ 4194304) ⌝ }
+    requires { ⌜ ChainRow (now s) (now known) n × ChainRow (now u) (now chains) m × AcceptedIndex (now u) (now index) count × (count ≤ length (now row)) × (length (now s) ≤ longest) × (length (now u) ≤ longest) ⌝ }
     ensures { λ r. ⌜ ((v : SpeltTree) → judge (now (u .entry)) ≡ accepted v → OpenedStaged (pagesIn (judge (now (s .entry)))) v (now (index .entry)) count r (now (row .exit))) ⌝ }
 {
-    let mut marks = [0u8; 4096];
+    let mut marks = [0u8; MOST];
     let opens = mark_known(s, known, n, u, chains, m, &mut marks);
     if !opens {
         return Opening {

@@ -12,6 +12,7 @@ ghost use mathlib.Core.Bool.{true};
 ghost use mathlib.Core.List.{List, []};
 ghost use Prim.Native.Nat.{ℕ, _+_, _≤_, _<_, min};
 ghost use lib.ListN.{length, take, drop};
+ghost use Rattle.limits.specs.Limits.{numbers, longestKey};
 ghost use Rattle.page.specs.Reading.{times, read};
 ghost use Rattle.page.specs.Page.{entry, RawEntry};
 ghost use Rattle.page_keys.specs.Keys.{prefixesOf};
@@ -32,7 +33,7 @@ pub fn extend_key(
     at: usize,
     n: usize,
 ) -> usize
-    requires { ⌜ (at + n ≤ length (now s)) × (shares < 65536) × (n < 65536) ⌝ }
+    requires { ⌜ (at + n ≤ length (now s)) × (shares < numbers) × (n < numbers) ⌝ }
     ensures { λ r. ⌜ Extended (now (buffer .entry)) size (now (s .entry)) shares at n (now (buffer .exit)) r ⌝ }
 {
     let keep = lesser(shares, size);
@@ -70,7 +71,7 @@ pub fn prefix_fits(buffer: &[u8], size: usize, s: &[u8], shares: usize, at: usiz
 
 // Whether the prefix lengths of the n entries from first on are right. The buffer has room for every byte that a prefix can reach.
 pub fn prefixes_fit(s: &[u8], first: usize, n: usize, buffer: &mut [u8]) -> bool
-    requires { ⌜ (65536 ≤ length (now buffer)) × (first ≤ length (now s)) ⌝ }
+    requires { ⌜ (numbers ≤ length (now buffer)) × (first ≤ length (now s)) ⌝ }
     ensures { λ r. ⌜ ((es : List RawEntry) (past : ℕ) → times n entry (drop first (now (s .entry))) ≡ read es (drop past (now (s .entry))) → r ≡ prefixesOf [] es) ⌝ }
 {
     let mut size = 0;
@@ -99,7 +100,7 @@ pub fn prefixes_fit(s: &[u8], first: usize, n: usize, buffer: &mut [u8]) -> bool
 
 // Whether the key in a buffer keeps the key rule. A key longer than the buffer does not.
 pub fn key_is_lawful(buffer: &[u8], size: usize) -> bool
-    requires { ⌜ 256 ≤ length (now buffer) ⌝ }
+    requires { ⌜ longestKey ≤ length (now buffer) ⌝ }
     ensures { λ r. ⌜ LawfulIs (now (buffer .entry)) size r ⌝ }
 {
     if buffer.len() < size {

@@ -4,6 +4,7 @@ use mathlib.Core.Path.{_≡_}
 use mathlib.Core.Option.{Option, none, some}
 use mathlib.Core.List.{List, [], _∷_}
 use lib.ListN.{length, take, drop}
+use Rattle.limits.specs.Limits.{numbers}
 use Rattle.value.specs.Value.{valueLength, valueIn}
 use Rattle.page.specs.Reading.{Read, read, endsEarly, departs, Reader, _>>=_, _>>_, pure, exactly, times}
 use Rattle.page.specs.Number.{number, byteString, array}
@@ -131,8 +132,8 @@ pub record Located (s : List ℕ) (at : ℕ) (e : EntryAt) : Type 0 where
   pub ahead : at < e .end
   pub within : e .end ≤ length s
   pub inside : e .remainder + e .size < e .end
-  pub shares : e .shares < 65536
-  pub size : e .size < 65536
+  pub shares : e .shares < numbers
+  pub size : e .size < numbers
   pub ends : Ends e
   pub here : (a : RawEntry) (to : ℕ) → Reads entry s at a to → EntryHere s at e
 

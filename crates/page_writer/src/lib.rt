@@ -18,6 +18,7 @@ ghost use mathlib.Core.Path.{_≡_};
 ghost use mathlib.Core.List.{_++_};
 ghost use Prim.Native.Nat.{_+_, _-_, _≤_, _<_};
 ghost use lib.ListN.{length, drop};
+ghost use Rattle.limits.specs.Limits.{numbers, longestKey};
 ghost use Rattle.bytestring.specs.Bytes.{front};
 ghost use Rattle.page.specs.Number.{numberBytes};
 ghost use Rattle.page.specs.Page.{linkBytes, gapBytes, entryBytes};
@@ -38,7 +39,7 @@ fn number_length(n: usize) -> usize
 
 // A number of a kind.
 fn write_number(out: &mut [u8], kind: u8, n: usize) -> usize
-    requires { ⌜ (kind ≤ 128) × (n < 65536) × (numberLength n ≤ length (now out)) ⌝ }
+    requires { ⌜ (kind ≤ 128) × (n < numbers) × (numberLength n ≤ length (now out)) ⌝ }
     ensures output { λ _. ⌜ now (out .exit) ≡ front (numberBytes kind n) (now (out .entry)) ⌝ }
     ensures count { λ r. ⌜ r ≡ numberLength n ⌝ }
 {
@@ -59,7 +60,7 @@ fn write_number(out: &mut [u8], kind: u8, n: usize) -> usize
 
 // These bytes, and then a number.
 fn write_number_after(out: &mut [u8], bytes: &[u8], kind: u8, n: usize) -> usize
-    requires { ⌜ (kind ≤ 128) × (n < 65536) × (length (now bytes) + numberLength n ≤ length (now out)) ⌝ }
+    requires { ⌜ (kind ≤ 128) × (n < numbers) × (length (now bytes) + numberLength n ≤ length (now out)) ⌝ }
     ensures output { λ _. ⌜ now (out .exit) ≡ front (now (bytes .entry) ++ numberBytes kind n) (now (out .entry)) ⌝ }
     ensures count { λ r. ⌜ r ≡ length (now (bytes .entry)) + numberLength n ⌝ }
 {
@@ -113,7 +114,7 @@ fn write_gap_after(out: &mut [u8], bytes: &[u8], linked: bool, digest: Digest) -
 
 // The start of an entry: its key without the bytes that it shares with the key before.
 fn write_entry_start(out: &mut [u8], shares: usize, key: &[u8]) -> usize
-    requires { ⌜ (length (now key) ≤ 256) × (shares ≤ length (now key)) × (entryStartLength shares (length (now key) - shares) ≤ length (now out)) ⌝ }
+    requires { ⌜ (length (now key) ≤ longestKey) × (shares ≤ length (now key)) × (entryStartLength shares (length (now key) - shares) ≤ length (now out)) ⌝ }
     ensures output { λ _. ⌜ now (out .exit) ≡ front (entryStartBytes shares (drop shares (now (key .entry)))) (now (out .entry)) ⌝ }
     ensures count { λ r. ⌜ r ≡ entryStartLength shares (length (now (key .entry)) - shares) ⌝ }
 {
@@ -139,7 +140,7 @@ fn write_entry_end(out: &mut [u8], linked: bool, link: Digest, value: Value) -> 
 
 // How many bytes the entry of a key after the previous one takes.
 pub fn entry_length(previous: &[u8], key: &[u8], linked: bool) -> usize
-    requires { ⌜ length (now key) ≤ 256 ⌝ }
+    requires { ⌜ length (now key) ≤ longestKey ⌝ }
     ensures { λ r. ⌜ (r ≡ entryLength (now (previous .entry)) (now (key .entry)) linked) × (r ≤ 400) ⌝ }
 {
     let shares = key_order::shared_count(previous, key);
@@ -156,7 +157,7 @@ pub fn write_entry(
     link: Digest,
     value: Value,
 ) -> usize
-    requires { ⌜ (length (now key) ≤ 256) × (entryLength (now previous) (now key) linked ≤ length (now out)) ⌝ }
+    requires { ⌜ (length (now key) ≤ longestKey) × (entryLength (now previous) (now key) linked ≤ length (now out)) ⌝ }
     ensures output { λ _. ⌜ now (out .exit) ≡ front (entryBytes (entryAfter (now (previous .entry)) (now (key .entry)) (linkIf linked link) value)) (now (out .entry)) ⌝ }
     ensures count { λ r. ⌜ r ≡ entryLength (now (previous .entry)) (now (key .entry)) linked ⌝ }
 {
@@ -174,7 +175,7 @@ pub fn page_start_length(count: usize) -> usize
 
 // The start of a page, which its entries follow.
 pub fn write_page_start(out: &mut [u8], count: usize) -> usize
-    requires { ⌜ (count < 65536) × (3 + numberLength count ≤ length (now out)) ⌝ }
+    requires { ⌜ (count < numbers) × (3 + numberLength count ≤ length (now out)) ⌝ }
     ensures output { λ _. ⌜ now (out .exit) ≡ front (pageStartBytes count) (now (out .entry)) ⌝ }
     ensures count { λ r. ⌜ r ≡ 3 + numberLength count ⌝ }
 {

@@ -3,6 +3,7 @@ use answer::Answer;
 use answer::Refusal;
 use bytestring::clear;
 use bytestring::write_bytes;
+use limits::LONGEST_KEY;
 use row::fetch::fetch_from;
 use row::search::count_below;
 use row::search::count_up_to;
@@ -34,10 +35,10 @@ pub fn record_at(
 {
     clear(out);
     *value = [0u8; VALUE];
-    let mut buffer = [0u8; 256];
+    let mut buffer = [0u8; LONGEST_KEY];
     let found = fetch_from(register, index[n], &mut buffer, 0);
     let size = found.size;
-    if 256 < size {
+    if LONGEST_KEY < size {
         return Answer::Done(0);
     }
     if out.len() < size {

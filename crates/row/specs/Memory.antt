@@ -3,6 +3,7 @@ use Prim.Native.Nat.{ℕ, _+_, _*_, _≤_, _<_}
 use mathlib.Core.Path.{_≡_}
 use mathlib.Core.List.{List, []}
 use lib.ListN.{length, take, drop, getD}
+use Rattle.limits.specs.Limits.{longestKey}
 use Rattle.value.specs.Value.{valueLength, valueIn}
 use Rattle.word.specs.Word.{pageIn, entryIn, sizeIn}
 use Rattle.page_reader.specs.Place.{Reads, pageStart}
@@ -28,17 +29,17 @@ NoteFor word note r = (s u buffer : List ℕ) → NoteHolds (sourceOf s u note) 
 
 -- The bytes from 256 × j on are the buffer of the j-th note.
 abbrev pub bufferOf : List ℕ → ℕ → List ℕ
-bufferOf keys j = take 256 (drop (256 * j) keys)
+bufferOf keys j = take longestKey (drop (longestKey * j) keys)
 
 pub record Remembers (s u keys notes : List ℕ) : Type 0 where
-  pub size : length keys ≡ 256 * length notes
+  pub size : length keys ≡ longestKey * length notes
   pub holds : (j : ℕ) → j < length notes → NoteHolds (sourceOf s u (getD notes j 0)) (getD notes j 0) (bufferOf keys j)
 
 -- The record of a word was recalled: its key stands in the memory, and its value at a place of its register.
 pub record Recalls (s u : List ℕ) (w : ℕ) (keys notes : List ℕ) (r : Recalled) : Type 0 where
   pub remembers : Remembers s u keys notes
   pub room : r .from + r .size ≤ length keys
-  pub short : r .size ≤ 256
+  pub short : r .size ≤ longestKey
   pub key : take (r .size) (drop (r .from) keys) ≡ recordOfWord s u w .key
   pub within : r .value + valueLength ≤ length (sourceOf s u w)
   pub val : valueIn (sourceOf s u w) (r .value) ≡ recordOfWord s u w .val

@@ -5,6 +5,7 @@ use mathlib.Core.Bool.{true, cond}
 use mathlib.Core.List.{List, [], map}
 use lib.ListN.{length, take, drop, getD}
 use lib.Dec.{eqb}
+use Rattle.limits.specs.Limits.{most}
 use Rattle.word.specs.Word.{pageIn, entryIn, layerIn, isFirst}
 use Rattle.key.specs.Key.{lawful}
 use Rattle.key.specs.Layer.{layerOf}
@@ -60,7 +61,7 @@ pub record Stands (s u : List ℕ) (w : ℕ) : Type 0 where
 
 -- The first n words of a row stand for records.
 pub record Row (s u row : List ℕ) (n : ℕ) : Type 0 where
-  pub few : n ≤ 4096
+  pub few : n ≤ most
   pub room : n ≤ length row
   pub first : length s < 2 ^ 24
   pub second : length u < 2 ^ 24

@@ -1,5 +1,6 @@
 // A record of a row, from where its page was left.
 use crate::fetch::fetch_of;
+use limits::LONGEST_KEY;
 use word::layer_in;
 use word::note_word;
 use word::register_in;
@@ -46,8 +47,8 @@ pub fn recall(
     ensures { λ r. ⌜ Recalls (now (s .entry)) (now (u .entry)) word (now (keys .exit)) (now (notes .exit)) r ⌝ }
 {
     let slot = base + slot_of(word);
-    let from = 256 * slot;
-    let to = from + 256;
+    let from = LONGEST_KEY * slot;
+    let to = from + LONGEST_KEY;
     let note = note_for(word, notes[slot]);
     let found = fetch_of(s, u, word, &mut keys[from..to], note);
     let size = found.size;

@@ -2,6 +2,7 @@
 use crate::fetch::fetch_from;
 use key::Order;
 use key_order::compare;
+use limits::LONGEST_KEY;
 ghost use Prim.Native.Nat.{_≤_};
 ghost use lib.ListN.{length};
 ghost use Rattle.row.specs.Search.{countBelow, countUpTo, PositionFits, SearchSays, CountSays};
@@ -17,14 +18,14 @@ pub fn search(s: &[u8], index: &[u64], count: usize, key: &[u8]) -> Searched
     ensures says { λ r. ⌜ SearchSays (now (s .entry)) (now (index .entry)) count (now (key .entry)) r ⌝ }
     ensures fits { λ r. ⌜ PositionFits count r ⌝ }
 {
-    let mut buffer = [0u8; 256];
+    let mut buffer = [0u8; LONGEST_KEY];
     let mut low = 0;
     let mut high = count;
     while low < high {
         let middle = low + (high - low) / 2;
         let found = fetch_from(s, index[middle], &mut buffer, 0);
         let size = found.size;
-        if 256 < size {
+        if LONGEST_KEY < size {
             return Searched::Absent(low);
         }
         match compare(&buffer[..size], key) {

@@ -4,6 +4,7 @@ use layout::records::write_record;
 use layout::runs::has_page;
 use layout::runs::run_end;
 use layout::sizes::measure;
+use limits::LONGEST_KEY;
 use page_writer::page_end_length;
 use page_writer::write_page_end;
 use page_writer::write_page_start;
@@ -91,7 +92,7 @@ fn write_entries(
 {
     let mut at = start;
     let mut tail = behind;
-    let mut previous = [0u8; 256];
+    let mut previous = [0u8; LONGEST_KEY];
     let mut held = 0;
     let mut i = first;
     while i < hi {

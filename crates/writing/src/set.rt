@@ -1,6 +1,7 @@
 // The word of one record, set in the index of a register.
 use choice::choose::Chosen;
 use choice::policy::word_of;
+use limits::LONGEST_KEY;
 use limits::MOST;
 use row::fetch::fetch_from;
 use row::search::Searched;
@@ -25,7 +26,7 @@ pub fn set_word(
 {
     match found {
         Searched::At(position, place) => {
-            let mut buffer = [0u8; 256];
+            let mut buffer = [0u8; LONGEST_KEY];
             let other = fetch_from(u, word, &mut buffer, 0);
             let old = index[position];
             index[position] = word_of(s, u, greater, old, place, word, other.value);
