@@ -124,7 +124,7 @@ judgeRead (read t rest) = settled (due (tests t rest)) t
 unfoldable pub judge : List ℕ → Verdict
 judge s = cond (leb (length s) longest) (judgeRead (readTree deepest s)) (refused TooLong)
 
--- Each value is as long as a value is.
+-- Each value is the 32 bytes of a digest.
 unfoldable pub allValues : List Record → Bool
 allValues [] = true
 allValues (r ∷ rs) = isValue (r .val) && allValues rs
