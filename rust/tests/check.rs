@@ -1,13 +1,11 @@
 //! `check` of accepted registers, and of inputs that are no register at all.
 
-mod common;
-
-use common::calls::{mijdegen_check, number_of, raw_check};
-use common::forge::{one_record, Page, EMPTY};
-use common::sets::{
+use crate::common::calls::{mijdegen_check, number_of, raw_check};
+use crate::common::forge::{one_record, Page, EMPTY};
+use crate::common::sets::{
     published_trees, rows_of_few_layers, set, set_of_layers, sets_to, Kind, COUNTS, HIGH, KINDS,
 };
-use common::Random;
+use crate::common::{hexadecimal, Random};
 use independent::{layer, pages, sha256, table, tree_of, Set};
 use mijdegen::{check, digest, Refusal, LONGEST};
 use std::ptr::{self, NonNull};
@@ -77,7 +75,7 @@ fn roots_of_published_trees() {
     for (set, root) in published_trees() {
         let pages = pages(&set);
         let found = digest(&pages[0]).expect("a page is short");
-        assert_eq!(common::hexadecimal(&found), root);
+        assert_eq!(hexadecimal(&found), root);
         assert_eq!(check(&pages.concat()), Ok(set.len()));
     }
 }

@@ -3,15 +3,13 @@
 //! `number_of` compares the calls with the independent crate. Where the number is known beforehand
 //! it is written here as well.
 
-mod common;
-
-use common::calls::number_of;
-use common::forge::{
+use crate::common::calls::number_of;
+use crate::common::forge::{
     entry_bytes, faulty_registers, left_chain, link_bytes, link_to, longest_page, one_record,
     page_bytes, right_chain, Entry, Link, Page, EMPTY,
 };
-use common::sets::{set, set_of_layers, short_unlawful_keys, Kind, KINDS};
-use common::Random;
+use crate::common::sets::{set, set_of_layers, short_unlawful_keys, Kind, KINDS};
+use crate::common::Random;
 use independent::{lawful, layer, pages, sha256, table, Set};
 use mijdegen::LONGEST;
 

@@ -1,18 +1,16 @@
 //! `difference` against the independent crate, against the sets and the pages' bytes themselves,
 //! and together with `merge`.
 
-mod common;
-
-use common::forge::EMPTY;
-use common::lists::Source;
-use common::sets::{
+use crate::common::forge::EMPTY;
+use crate::common::lists::Source;
+use crate::common::sets::{
     of_layer, one_page_below_high, part, parts, rows_of_few_layers, set, set_of_layers, sets_to,
     value, Kind, COUNTS, HIGH, KINDS,
 };
-use common::writes::{
+use crate::common::writes::{
     compare_call, compare_lengths, difference_value, expect_outcome, expect_refusal, written, Call,
 };
-use common::Random;
+use crate::common::Random;
 use independent::{layer, pages, table, tree, tree_of, Set, LONGEST};
 use mijdegen::{difference, Difference};
 use std::collections::HashSet;

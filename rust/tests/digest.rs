@@ -1,9 +1,7 @@
 //! `digest` against published digests and against the independent SHA-256.
 
-mod common;
-
-use common::calls::{expect_long_inputs_refused, mijdegen_digest, Surrounded};
-use common::{hexadecimal, Random};
+use crate::common::calls::{expect_long_inputs_refused, mijdegen_digest, Surrounded};
+use crate::common::{hexadecimal, Random};
 use mijdegen::{digest, LONGEST};
 use std::collections::BTreeSet;
 use std::ptr::{self, NonNull};

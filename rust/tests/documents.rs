@@ -1,15 +1,18 @@
 //! The documents are held against the repository: what they name in code spans must exist, and
 //! stand where they say. Every must-fail edit is cited, and every C function is promised.
 
-mod common;
-
-use common::repository::{library_functions, read, root};
+use crate::common::repository::{library_functions, read, root};
 use std::collections::{BTreeMap, BTreeSet};
 use std::fs;
 use std::path::Path;
 
 const PROMISES: &str = "docs/PROMISES.md";
-const DOCUMENTS: [&str; 4] = ["README.md", "docs/ARCHITECTURE.md", "docs/DECISIONS.md", PROMISES];
+const DOCUMENTS: [&str; 4] = [
+    "README.md",
+    "docs/ARCHITECTURE.md",
+    "docs/DECISIONS.md",
+    PROMISES,
+];
 
 /// The code spans that name nothing in the repository. Each must be in use.
 const LITERALS: [&str; 16] = [

@@ -1,14 +1,12 @@
 //! The names `.` and `..`: a key that has one of them breaks the key rule, as an argument and in a
 //! register. Dots anywhere else do not.
 
-mod common;
-
-use common::calls::{compare_lookup, compare_slash, number_of};
-use common::forge::{link_to, Page, EMPTY};
-use common::neighbours::{expect_record, NEIGHBOURS};
-use common::sets::{dot_name_keys, dotted_keys, set, value, Kind, KINDS};
-use common::writes::{expect_refusal, written, Call};
-use common::Random;
+use crate::common::calls::{compare_lookup, compare_slash, number_of};
+use crate::common::forge::{link_to, Page, EMPTY};
+use crate::common::neighbours::{expect_record, NEIGHBOURS};
+use crate::common::sets::{dot_name_keys, dotted_keys, set, value, Kind, KINDS};
+use crate::common::writes::{expect_refusal, written, Call};
+use crate::common::Random;
 use independent::{lawful, layer, table, Set};
 
 const VALUE: [u8; 32] = [0x11; 32];

@@ -2,22 +2,20 @@
 //!
 //! The rounds of the gate are always the same. More of them, from another seed:
 //!
-//!     MIJDEGEN_ROUNDS=1000000 MIJDEGEN_SEED=7 cargo test --release --test fuzz -- --nocapture
+//!     MIJDEGEN_ROUNDS=1000000 MIJDEGEN_SEED=7 cargo test --release --test all fuzz:: -- --nocapture
 //!
 //! A round that fails tells the command that runs it alone.
 
-mod common;
-
-use common::calls::{
-    compare_list, compare_lookup, compare_slash, mijdegen_digest, raw_check, raw_layer, shown,
-    Surrounded,
+use crate::common::calls::{
+    answer, compare_list, compare_lookup, compare_slash, mijdegen_digest, raw_check, raw_layer,
+    shown, Surrounded,
 };
-use common::forge::{link_to, Entry, Page};
-use common::lists::{damaged, drawn_value, out_length, Source};
-use common::neighbours::{compare_neighbour, NEIGHBOURS};
-use common::sets::{part, set, Kind, KINDS};
-use common::writes::{compare_call, length_in, Call};
-use common::Random;
+use crate::common::forge::{link_to, Entry, Page};
+use crate::common::lists::{damaged, drawn_value, out_length, Source};
+use crate::common::neighbours::{compare_neighbour, NEIGHBOURS};
+use crate::common::sets::{part, set, Kind, KINDS};
+use crate::common::writes::{compare_call, length_in, Call};
+use crate::common::Random;
 use independent::{table, Set};
 use mijdegen::{check, digest, layer, Refusal};
 use std::env;
@@ -72,7 +70,7 @@ impl Drop for Told {
         if thread::panicking() {
             eprintln!(
                 "This round alone: MIJDEGEN_ROUNDS=1 MIJDEGEN_SEED={} \
-                 cargo test --release --test fuzz",
+                 cargo test --release --test all fuzz::",
                 self.0
             );
         }
@@ -198,7 +196,7 @@ fn compare_layer(input: &[u8]) -> Result<usize, u8> {
 
     let expected = expected.map(usize::from);
     let found = raw_layer(&mut input.to_vec());
-    let answer = common::calls::answer(expected);
+    let answer = answer(expected);
     assert_eq!(found, answer, "C layer of {}", shown(input));
     expected
 }
@@ -208,7 +206,7 @@ fn compare_check(register: &[u8]) -> Result<usize, u8> {
     let found = check(register).map_err(Refusal::number);
     assert_eq!(found, expected, "check of {}", shown(register));
     let found = raw_check(&mut register.to_vec());
-    let answer = common::calls::answer(expected);
+    let answer = answer(expected);
     assert_eq!(found, answer, "C check of {}", shown(register));
     expected
 }

@@ -2,9 +2,7 @@
 //! declares: their names, and the names and types of their parameters. Both have the functions of
 //! the library, and the crate has a safe function for each.
 
-mod common;
-
-use common::repository::{library_functions, read};
+use crate::common::repository::{library_functions, read};
 
 /// A function's name and its parameters, as Rust writes them.
 type Function = (String, Vec<String>);

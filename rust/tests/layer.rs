@@ -1,9 +1,7 @@
 //! `layer` against published layers and against the independent count.
 
-mod common;
-
-use common::calls::{expect_long_inputs_refused, mijdegen_layer, raw_layer};
-use common::Random;
+use crate::common::calls::{expect_long_inputs_refused, mijdegen_layer, raw_layer};
+use crate::common::Random;
 use mijdegen::{layer, LONGEST};
 use std::ptr::{self, NonNull};
 

@@ -1,12 +1,10 @@
 //! The writing calls around 4,096 records, and the longest tables.
 
-mod common;
-
-use common::calls::number_of;
-use common::forge::{Entry, Page};
-use common::sets::{part, set, value, Kind, FULL_KINDS};
-use common::writes::{compare_call, expect_refusal, expect_table, Call};
-use common::Random;
+use crate::common::calls::number_of;
+use crate::common::forge::{Entry, Page};
+use crate::common::sets::{part, set, value, Kind, FULL_KINDS};
+use crate::common::writes::{compare_call, expect_refusal, expect_table, Call};
+use crate::common::Random;
 use independent::{layer, merge_in, table, Set, LONGEST};
 
 /// The greatest count of records, one less and one more.

@@ -1,10 +1,8 @@
 //! `list` against the independent crate and against the sets themselves.
 
-mod common;
-
-use common::calls::{compare_list, mijdegen_list, raw_list};
-use common::forge::EMPTY;
-use common::sets::{set, sets_to, Kind, KINDS};
+use crate::common::calls::{compare_list, mijdegen_list, raw_list};
+use crate::common::forge::EMPTY;
+use crate::common::sets::{set, sets_to, Kind, KINDS};
 use independent::table;
 use mijdegen::{list, Listed, Refusal, LONGEST, LONGEST_KEY};
 use std::ptr;

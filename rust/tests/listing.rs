@@ -2,12 +2,10 @@
 //!
 //! The text is made from the set that the independent crate reads, and not by the library.
 
-mod common;
-
-use common::calls::shown;
-use common::forge::{faulty_registers, one_record, EMPTY};
-use common::hexadecimal;
-use common::sets::{long_keys_in_turn, part, set, Kind, KINDS};
+use crate::common::calls::shown;
+use crate::common::forge::{faulty_registers, one_record, EMPTY};
+use crate::common::hexadecimal;
+use crate::common::sets::{long_keys_in_turn, part, set, Kind, KINDS};
 use independent::{layer, pages, table};
 use std::io::{ErrorKind, Write};
 use std::path::Path;

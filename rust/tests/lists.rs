@@ -1,13 +1,11 @@
 //! Lists of puts, removals, joins and merges, refused ones included: each call answers as the
 //! plain map does, and lists that reach the same set end in the same bytes.
 
-mod common;
-
-use common::forge::EMPTY;
-use common::lists::{full_set, List, Source};
-use common::sets::{part, set, value, Kind, FULL_KINDS, KINDS};
-use common::writes::{written, Call};
-use common::Random;
+use crate::common::forge::EMPTY;
+use crate::common::lists::{full_set, List, Source};
+use crate::common::sets::{part, set, value, Kind, FULL_KINDS, KINDS};
+use crate::common::writes::{written, Call};
+use crate::common::Random;
 use independent::{layer, table, Set};
 
 /// Adds the counts of one list to those of others.

@@ -1,11 +1,9 @@
 //! `lookup` and `lookup_place` against the independent crate and against the sets themselves.
 
-mod common;
-
-use common::calls::{compare_lookup, mijdegen_lookup, raw_lookup};
-use common::forge::{one_record, EMPTY};
-use common::sets::{keys_near, keys_with, set, sets_to, unlawful_keys, Kind, KINDS};
-use common::Random;
+use crate::common::calls::{compare_lookup, mijdegen_lookup, raw_lookup};
+use crate::common::forge::{one_record, EMPTY, LINK};
+use crate::common::sets::{keys_near, keys_with, set, sets_to, unlawful_keys, Kind, KINDS};
+use crate::common::Random;
 use independent::{lawful, table, Set};
 use mijdegen::{lookup, lookup_place, Refusal, LONGEST};
 use std::ptr;
@@ -28,7 +26,7 @@ fn each_present_key() {
             assert_eq!(lookup(&register, key), Ok(value), "{kind:?}");
             assert_eq!(register[place..place + 32], *value, "{kind:?}");
             // The nine bytes of the link stand before the value.
-            assert_eq!(register[place - 9..place], *common::forge::LINK);
+            assert_eq!(register[place - 9..place], *LINK);
             cases += 1;
         }
     }

@@ -1,12 +1,12 @@
 //! `merge` against the independent crate, against the sets themselves, and its three laws.
 
-mod common;
-
-use common::forge::{one_record, EMPTY};
-use common::lists::Source;
-use common::sets::{part, parts, rows_of_few_layers, set, set_of_layers, sets_to, value, KINDS};
-use common::writes::{compare_lengths, expect_table, written, Call};
-use common::Random;
+use crate::common::forge::{one_record, EMPTY};
+use crate::common::lists::Source;
+use crate::common::sets::{
+    part, parts, rows_of_few_layers, set, set_of_layers, sets_to, value, KINDS,
+};
+use crate::common::writes::{compare_lengths, expect_table, written, Call};
+use crate::common::Random;
 use independent::{merge_in, set_of, table, Set};
 use mijdegen::merge;
 

@@ -1,12 +1,10 @@
 //! The order in which the numbers are judged: with several faults at once the first one is
 //! answered.
 
-mod common;
-
-use common::forge::{faulty_registers, one_record, EMPTY};
-use common::neighbours::{expect_neighbour, Neighbour, NEIGHBOURS};
-use common::sets::{set, Kind};
-use common::writes::{difference_value, expect_outcome, expect_refusal, Call};
+use crate::common::forge::{faulty_registers, one_record, EMPTY};
+use crate::common::neighbours::{expect_neighbour, Neighbour, NEIGHBOURS};
+use crate::common::sets::{set, Kind};
+use crate::common::writes::{difference_value, expect_outcome, expect_refusal, Call};
 use independent::{table, Set};
 
 const VALUE: [u8; 32] = [0x11; 32];

@@ -1,14 +1,12 @@
 //! Outputs of every length, and the buffers of the writing calls at their limits.
 
-mod common;
-
-use common::calls::{
+use crate::common::calls::{
     mijdegen_difference, mijdegen_join, mijdegen_merge, mijdegen_put, mijdegen_remove,
 };
-use common::forge::{one_record, EMPTY};
-use common::neighbours::NEIGHBOURS;
-use common::sets::{part, set, set_of_layers, Kind};
-use common::writes::{expect_refusal, expect_table, Call};
+use crate::common::forge::{one_record, EMPTY};
+use crate::common::neighbours::NEIGHBOURS;
+use crate::common::sets::{part, set, set_of_layers, Kind};
+use crate::common::writes::{expect_refusal, expect_table, Call};
 use independent::{table, Set, LONGEST};
 use mijdegen::{difference, join, merge, put, remove, run, Listed, Refusal};
 use std::ptr;

@@ -1,13 +1,11 @@
 //! Pages that are parted and joined by the writing calls.
 
-mod common;
-
-use common::sets::{
+use crate::common::sets::{
     long_keys_in_turn, of_layer, one_page_below_high, ordinary_of_layer, part, rows_of_few_layers,
     set, set_of_layers, Kind, HIGH, KINDS,
 };
-use common::writes::{compare_lengths, expect_table, written, Call};
-use common::Random;
+use crate::common::writes::{compare_lengths, expect_table, written, Call};
+use crate::common::Random;
 use independent::{layer, pages, table, Set};
 
 const VALUE: [u8; 32] = [0x77; 32];

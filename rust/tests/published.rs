@@ -1,12 +1,10 @@
 //! The trees that are published with the format, reached by the writing calls: their roots have
 //! the published digests.
 
-mod common;
-
-use common::forge::EMPTY;
-use common::sets::{part, published_trees, set, Kind};
-use common::writes::{compare_lengths, written, Call};
-use common::{hexadecimal, Random};
+use crate::common::forge::EMPTY;
+use crate::common::sets::{part, published_trees, set, Kind};
+use crate::common::writes::{compare_lengths, written, Call};
+use crate::common::{hexadecimal, Random};
 use independent::{pages, table, Set};
 use mijdegen::digest;
 

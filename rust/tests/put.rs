@@ -1,13 +1,13 @@
 //! `put` and `join` against the independent crate and against the sets themselves.
 
-mod common;
-
-use common::forge::{one_record, EMPTY};
-use common::sets::{
+use crate::common::forge::{one_record, EMPTY};
+use crate::common::sets::{
     keys_near, keys_with, part, set, set_of_layers, sets_to, unlawful_keys, Kind, KINDS,
 };
-use common::writes::{compare_call, compare_lengths, expect_refusal, expect_table, written, Call};
-use common::Random;
+use crate::common::writes::{
+    compare_call, compare_lengths, expect_refusal, expect_table, written, Call,
+};
+use crate::common::Random;
 use independent::{lawful, lookup, table, Set};
 
 /// The two calls with the same record.

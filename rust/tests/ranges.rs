@@ -1,18 +1,18 @@
 //! `at_or_after`, `before` and `run` against the independent crate and against the sets
 //! themselves.
 
-mod common;
-
-use common::calls::{mijdegen_at_or_after, mijdegen_before, mijdegen_run};
-use common::forge::{faulty_registers, one_record, EMPTY};
-use common::neighbours::{compare_neighbour, expect_record, Neighbour, NEIGHBOURS};
-use common::sets::{
+use crate::common::calls::{mijdegen_at_or_after, mijdegen_before, mijdegen_run};
+use crate::common::forge::{faulty_registers, one_record, EMPTY};
+use crate::common::neighbours::{compare_neighbour, expect_record, Neighbour, NEIGHBOURS};
+use crate::common::sets::{
     greatest_key, just_after, just_before, keys_and_neighbours, keys_near, keys_with, least_key,
     part, rows_of_few_layers, set, set_of_layers, sets_to, unlawful_keys, value, Kind, FULL_KINDS,
     HIGH, KINDS,
 };
-use common::writes::{compare_call, compare_lengths, expect_refusal, expect_table, written, Call};
-use common::Random;
+use crate::common::writes::{
+    compare_call, compare_lengths, expect_refusal, expect_table, written, Call,
+};
+use crate::common::Random;
 use independent::{lawful, pages, table, Set};
 use mijdegen::{
     at_or_after, before, check, list, lookup, run, Listed, Refusal, LONGEST, LONGEST_KEY,

@@ -1,11 +1,9 @@
 //! `remove` against the independent crate and against the sets themselves.
 
-mod common;
-
-use common::forge::{one_record, EMPTY};
-use common::sets::{keys_near, part, set, sets_to, unlawful_keys, Kind, HIGH, KINDS};
-use common::writes::{compare_lengths, expect_refusal, expect_table, written, Call};
-use common::Random;
+use crate::common::forge::{one_record, EMPTY};
+use crate::common::sets::{keys_near, part, set, sets_to, unlawful_keys, Kind, HIGH, KINDS};
+use crate::common::writes::{compare_lengths, expect_refusal, expect_table, written, Call};
+use crate::common::Random;
 use independent::{lawful, table, tree_of};
 
 #[test]

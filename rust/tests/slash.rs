@@ -1,20 +1,18 @@
 //! `slash` and `split` against the independent crate, against answers that are known from how the
 //! keys are made, and against the other calls that take a key.
 
-mod common;
-
-use common::calls::{
+use crate::common::calls::{
     answer, compare_lookup, compare_slash, mijdegen_slash, number_of, raw_slash, shown,
 };
-use common::forge::EMPTY;
-use common::lists::damaged;
-use common::neighbours::NEIGHBOURS;
-use common::sets::{
+use crate::common::forge::EMPTY;
+use crate::common::lists::damaged;
+use crate::common::neighbours::NEIGHBOURS;
+use crate::common::sets::{
     dot_name_keys, dotted_keys, greatest_key, keys_near, keys_with, least_key, set,
     short_unlawful_keys, unlawful_keys, KINDS,
 };
-use common::writes::Call;
-use common::Random;
+use crate::common::writes::Call;
+use crate::common::Random;
 use independent::{table, Set, LONGEST_KEY};
 use mijdegen::{slash, split, Refusal, Split, LONGEST};
 use std::ptr::{self, NonNull};

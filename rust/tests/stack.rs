@@ -1,16 +1,14 @@
 //! The calls need little stack: they run in a thread that has 512 KiB of it.
 
-mod common;
-
-use common::forge::{left_chain, link_to, longest_page, right_chain, Entry, Page, EMPTY};
-use common::lists::{full_set, List};
-use common::neighbours::{expect_neighbour, Neighbour, NEIGHBOURS};
-use common::sets::{
+use crate::common::forge::{left_chain, link_to, longest_page, right_chain, Entry, Page, EMPTY};
+use crate::common::lists::{full_set, List};
+use crate::common::neighbours::{expect_neighbour, Neighbour, NEIGHBOURS};
+use crate::common::sets::{
     greatest_key, just_after, just_before, least_key, long_keys_in_turn, one_page_below_high, part,
     set, Kind, FULL_KINDS, HIGH, KINDS,
 };
-use common::writes::{expect_outcome, expect_table, Call};
-use common::Random;
+use crate::common::writes::{expect_outcome, expect_table, Call};
+use crate::common::Random;
 use independent::table;
 use mijdegen::{check, digest, layer, list, lookup, slash, Refusal, LONGEST};
 use std::thread;

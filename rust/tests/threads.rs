@@ -1,12 +1,10 @@
 //! Calls at the same time from several threads. A safe function must allow them.
 
-mod common;
-
-use common::lists::{List, Source};
-use common::neighbours::NEIGHBOURS;
-use common::sets::{greatest_key, least_key, set, value, Kind};
-use common::writes::{expect_outcome, Call};
-use common::Random;
+use crate::common::lists::{List, Source};
+use crate::common::neighbours::NEIGHBOURS;
+use crate::common::sets::{greatest_key, least_key, set, value, Kind};
+use crate::common::writes::{expect_outcome, Call};
+use crate::common::Random;
 use independent::{table, Set};
 use mijdegen::{check, digest, layer, list, lookup_place, slash, Listed, Refusal};
 use std::thread;

@@ -1,6 +1,6 @@
-//! What several test files use.
+//! What several files of tests and the benchmarks use.
 
-// Each test file is compiled with its own copy of this module and may not use all of it.
+// Each benchmark is compiled with its own copy of this module and does not use all of it.
 #![allow(dead_code)]
 
 #[path = "../../src/c.rs"]
