@@ -1,4 +1,4 @@
-//! The times of all fourteen calls on ordinary records, beside the independent crate and beside
+//! The times of all fifteen calls on ordinary records, beside the independent crate and beside
 //! what the calls cannot do without: hashing each page and each key of the lent registers once.
 //! Also the difference of two full registers that are nearly the same, and of two with nothing in
 //! common, and the calls on registers that a careless reader is slow on. Targets stand beside.
@@ -10,7 +10,7 @@ mod subject;
 mod timing;
 
 use common::neighbours::Neighbour;
-use common::sets::{part, set, Kind};
+use common::sets::{collection_of, part, screens_of, set, Kind};
 use common::writes::{length_in, Call};
 use hard::Hard;
 use independent::Set;
@@ -116,10 +116,11 @@ impl Lent {
     }
 }
 
-/// All fourteen calls. Put is lent the register without the middle record, merge two of half as
+/// All fifteen calls. Put is lent the register without the middle record, merge two of half as
 /// many records, difference the one without the middle record and the whole one, the others the
-/// whole. A run is of all records, and of 8 around the middle one. Slash is asked of each key; it
-/// hashes nothing, and the digest of each key stands beside it.
+/// whole. A run is of all records, and of 8 around the middle one. The screen is the middle one of
+/// the middle record's collection, which is one of four. Slash is asked of each key; it hashes
+/// nothing, and the digest of each key stands beside it.
 fn all_calls<'a>(whole: &'a Subject, lent: &'a [[&'a Subject; 2]; 4]) -> Vec<Case<'a>> {
     let register = &whole.register[..];
     let key = whole.middle_key();
@@ -134,6 +135,8 @@ fn all_calls<'a>(whole: &'a Subject, lent: &'a [[&'a Subject; 2]; 4]) -> Vec<Cas
     let second = |pair: &[&Subject; 2]| pair[1].register.clone();
     let keys: Vec<&[u8]> = whole.set.keys().map(Vec::as_slice).collect();
     let run = |from: usize, to: usize| Call::run(keys[from], keys[to]);
+    let collection = collection_of(key);
+    let screens = screens_of(&whole.set, collection).len() as u64;
     vec![
         Case::new(
             "digest",
@@ -187,6 +190,7 @@ fn all_calls<'a>(whole: &'a Subject, lent: &'a [[&'a Subject; 2]; 4]) -> Vec<Cas
             difference,
             Call::difference(&second(difference)),
         ),
+        Case::write("screen", &one[..1], Call::screen(collection, screens / 2)),
     ]
 }
 
@@ -231,6 +235,7 @@ fn most_beside_hash_once(name: &str) -> Option<f64> {
         "check" => Some(1.2),
         "put" | "join" | "remove" => Some(1.5),
         "merge" => Some(2.2),
+        "screen" => Some(1.3),
         "difference, 10 apart" => Some(1.3),
         "difference, nothing shared" => Some(1.78),
         _ => None,
@@ -297,9 +302,11 @@ fn print_all_calls(count: usize, pairs: &[(&'static str, [Subject; 2])]) {
     println!();
 }
 
-/// Four calls on a pair of registers: check and put are lent the first, merge and difference both.
-/// An output is just long enough, or as long as the first register where the call is refused.
-fn calls_on_pair<'a>([first, second]: [&'a [u8]; 2]) -> [Box<dyn FnMut() + 'a>; 4] {
+/// Five calls on a pair of registers: check, put and screen are lent the first, merge and
+/// difference both. An output is just long enough, or as long as the first register where the call
+/// is refused. The screen is of a collection that both the ordinary registers and the accepted hard
+/// ones have.
+fn calls_on_pair<'a>([first, second]: [&'a [u8]; 2]) -> [Box<dyn FnMut() + 'a>; 5] {
     let write = |call: Call| -> Box<dyn FnMut() + 'a> {
         let mut out = vec![0; first.len() + second.len()];
         let length = call.safe(first, &mut out).map_or(first.len(), length_in);
@@ -315,10 +322,11 @@ fn calls_on_pair<'a>([first, second]: [&'a [u8]; 2]) -> [Box<dyn FnMut() + 'a>; 
         write(Call::put(b"a/b1", &[0x77; 32])),
         write(Call::merge(second)),
         write(Call::difference(second)),
+        write(Call::screen(b"app.bsky.feed.post", 20)),
     ]
 }
 
-/// Times the four calls on hard registers beside ordinary ones and writes the ratios of the times
+/// Times the five calls on hard registers beside ordinary ones and writes the ratios of the times
 /// for each byte hashed.
 fn print_hard_calls(ordinary: &[Subject; 2]) {
     println!("{:<36} {:>12}  {}", "registers", "bytes hashed", HARD_CALLS);
@@ -339,12 +347,12 @@ fn print_hard_calls(ordinary: &[Subject; 2]) {
             tasks.push(task.as_mut());
         }
         let times = best_times_within(EACH, &mut tasks);
-        // Check and put hash the first register, merge and difference both.
+        // Check, put and screen hash the first register, merge and difference both.
         let [usual, all] = pairs.map(|(_, [first, second])| {
-            [first, first, first + second, first + second].map(|bytes| bytes as f64)
+            [first, first, first + second, first + second, first].map(|bytes| bytes as f64)
         });
-        let ratios: Vec<f64> = (0..4)
-            .map(|n| (times[4 + n] / all[n]) / (times[n] / usual[n]))
+        let ratios: Vec<f64> = (0..5)
+            .map(|n| (times[5 + n] / all[n]) / (times[n] / usual[n]))
             .collect();
         let shown: String = ratios
             .iter()
@@ -363,8 +371,8 @@ fn print_hard_calls(ordinary: &[Subject; 2]) {
     }
 }
 
-/// The heads of the columns of the four calls.
-const HARD_CALLS: &str = "       check         put       merge  difference";
+/// The heads of the columns of the five calls.
+const HARD_CALLS: &str = "       check         put       merge  difference      screen";
 
 fn main() {
     println!("Times of one call in microseconds, best of many samples, all of one count taken in");
@@ -381,12 +389,14 @@ fn main() {
         "Difference is of the register without one record and the whole one; the last two are"
     );
     println!(
-        "of two registers of 4,096 records. At_or_after and before are of the middle key. Slash"
+        "of two registers of 4,096 records. At_or_after and before are of the middle key, and the"
     );
     println!(
-        "is one call for each key, beside the digest of each key. Outputs are just long enough."
+        "screen is the middle one of its collection. Slash is one call for each key, beside the"
     );
-    println!("What is over its target is marked.\n");
+    println!(
+        "digest of each key. Outputs are just long enough. What is over its target is marked.\n"
+    );
     println!(
         "{:>7}  {:<27} {:>9} {:>9} {:>12} {:>10} {:>12}",
         "records", "call", "library", "hash-once", "independent", "/hash-once", "/independent"

@@ -38,6 +38,12 @@ extern "C" {
 /* The length in bytes of a digest. */
 #define MIJDEGEN_DIGEST_LENGTH 32
 
+/* How many records a screen has at most. */
+#define MIJDEGEN_PER_SCREEN 8
+
+/* A length in bytes that no screen exceeds: an output so long has room for every screen. */
+#define MIJDEGEN_LONGEST_SCREEN 65536
+
 /* The numbers of the refusals. */
 enum mijdegen_refusal {
     /* A lent register, or the input of digest or layer, is longer than 4,194,304 bytes. */
@@ -52,7 +58,8 @@ enum mijdegen_refusal {
     MIJDEGEN_TOO_MANY_RECORDS = 5,
     /* A prefix length is not the shared count. */
     MIJDEGEN_WRONG_PREFIX = 6,
-    /* A key in a register or argument breaks the key rule. */
+    /* A key in a register or argument breaks the key rule, or a collection argument is the part
+     * before the slash in no lawful key. */
     MIJDEGEN_UNLAWFUL_KEY = 7,
     /* A key is not greater than the key before it in tree order. */
     MIJDEGEN_KEYS_NOT_RISING = 8,
@@ -69,7 +76,9 @@ enum mijdegen_refusal {
     /* The result is longer than the output, or than 4,194,304 bytes. */
     MIJDEGEN_NO_ROOM = 13,
     /* The first key is greater than the last. */
-    MIJDEGEN_FIRST_AFTER_LAST = 14
+    MIJDEGEN_FIRST_AFTER_LAST = 14,
+    /* A screen number is at or past the number of screens. */
+    MIJDEGEN_NO_SUCH_SCREEN = 15
 };
 
 /* The number of an answer: 0, or one of enum mijdegen_refusal. */
@@ -82,6 +91,18 @@ static inline unsigned mijdegen_number(uint64_t answer)
 static inline uint64_t mijdegen_value(uint64_t answer)
 {
     return answer >> 8;
+}
+
+/* The first number in a value that holds two, the first plus 2^24 times the second. */
+static inline size_t mijdegen_first_of_two(uint64_t answer)
+{
+    return (size_t)(mijdegen_value(answer) & 0xffffffu);
+}
+
+/* The second number in a value that holds two. */
+static inline size_t mijdegen_second_of_two(uint64_t answer)
+{
+    return (size_t)(mijdegen_value(answer) >> 24);
 }
 
 /*
@@ -174,17 +195,18 @@ uint64_t mijdegen_before(const uint8_t *reg, size_t reg_len, const uint8_t *key,
                          uint8_t *out, size_t out_len, uint8_t value[MIJDEGEN_DIGEST_LENGTH]);
 
 /*
- * The six functions below write a register. Its table stands at the start of out, with zeros
+ * The seven functions below write a register. Its table stands at the start of out, with zeros
  * after it up to out_len bytes. The number of the answer is 0 and its value is the length of the
- * table; that of mijdegen_difference holds more.
+ * table; those of mijdegen_difference and mijdegen_screen hold more.
  *
  * Otherwise the answer is the first of these numbers that is due, and out is wholly zero:
  *
  *   - the number of mijdegen_check for the first register, 1 to 10;
  *   - that for the second register, 1 to 10;
  *   - MIJDEGEN_UNLAWFUL_KEY where the key breaks the key rule; of two keys the first is judged
- *     before the last;
+ *     before the last; also where the collection stands before the slash in no lawful key;
  *   - MIJDEGEN_FIRST_AFTER_LAST where the first key is greater than the last;
+ *   - MIJDEGEN_NO_SUCH_SCREEN where n is at or past the number of screens;
  *   - MIJDEGEN_VALUE_LENGTH where value_len is not MIJDEGEN_DIGEST_LENGTH;
  *   - MIJDEGEN_KEY_ABSENT where no record has the key to be removed;
  *   - MIJDEGEN_TOO_MANY_RECORDS where the result has more than 4,096 records;
@@ -245,13 +267,42 @@ uint64_t mijdegen_difference(const uint8_t *first, size_t first_len, const uint8
 /* The length of the table in an answer of mijdegen_difference: 0 where the call was refused. */
 static inline size_t mijdegen_difference_length(uint64_t answer)
 {
-    return (size_t)(mijdegen_value(answer) & 0xffffffu);
+    return mijdegen_first_of_two(answer);
 }
 
 /* The number of opened pages in an answer of mijdegen_difference: 0 where it was refused. */
 static inline size_t mijdegen_difference_opened(uint64_t answer)
 {
-    return (size_t)(mijdegen_value(answer) >> 24);
+    return mijdegen_second_of_two(answer);
+}
+
+/*
+ * Writes the register of the records on one screen of a collection: those that stand from 8 * n to
+ * 8 * n + 7 among the collection's records in key order, counted from 0. The records of a
+ * collection are those whose keys have it before the slash. It has one screen for each
+ * MIJDEGEN_PER_SCREEN of them, and one more for those that are left over; so each record stands on
+ * just one of its screens. A collection without records has one screen, the empty register.
+ *
+ * The collection may be any that stands before the slash in some lawful key, present or not: from 1
+ * to 254 bytes, also "." and "..". An output of MIJDEGEN_LONGEST_SCREEN bytes has room for every
+ * screen. Each call judges the whole register again and writes at most 8 records.
+ *
+ * The value of the answer is the length of the table plus 2^24 times the number of screens. Take it
+ * apart with mijdegen_screen_length and mijdegen_screen_count.
+ */
+uint64_t mijdegen_screen(const uint8_t *reg, size_t reg_len, const uint8_t *collection,
+                         size_t collection_len, uint64_t n, uint8_t *out, size_t out_len);
+
+/* The length of the table in an answer of mijdegen_screen: 0 where the call was refused. */
+static inline size_t mijdegen_screen_length(uint64_t answer)
+{
+    return mijdegen_first_of_two(answer);
+}
+
+/* The number of screens in an answer of mijdegen_screen: 0 where the call was refused. */
+static inline size_t mijdegen_screen_count(uint64_t answer)
+{
+    return mijdegen_second_of_two(answer);
 }
 
 #ifdef __cplusplus

@@ -87,4 +87,13 @@ extern "C" {
         out: *mut u8,
         out_len: usize,
     ) -> u64;
+    pub fn mijdegen_screen(
+        reg: *const u8,
+        reg_len: usize,
+        collection: *const u8,
+        collection_len: usize,
+        n: u64,
+        out: *mut u8,
+        out_len: usize,
+    ) -> u64;
 }

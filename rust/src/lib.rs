@@ -8,7 +8,8 @@
 //! The key rule: a key has 3 to 256 bytes, with just one slash and at least one byte on each side
 //! of it. The other bytes are ASCII letters, digits, `.`, `-`, `_`, `:` and `~`. The part before the
 //! slash is the collection, the part after it the name. The name is neither `.` nor `..`. What
-//! breaks the rule, as an argument or in a register, is refused with [`Refusal::UnlawfulKey`].
+//! breaks the rule, as an argument or in a register, is refused with [`Refusal::UnlawfulKey`], and
+//! so is a collection as an argument that stands before the slash in no lawful key.
 //!
 //! [`slash`] judges a key without a register and says where its slash stands. [`split`] gives the
 //! collection and the name as parts of the key:
@@ -39,7 +40,9 @@
 //! Each call that takes a register judges it whole, so its time grows with the register's length:
 //! each page and each key is hashed once. Going through a register of n records by [`list`],
 //! [`at_or_after`] or [`before`] costs n such judgements, and n calls of [`lookup`] or [`put`] the
-//! same. A writing call hashes the pages that it writes as well.
+//! same. A writing call hashes the pages that it writes as well. [`screen`] judges the register
+//! once and writes at most 8 records: going through a collection by its screens costs one judgement
+//! for every 8 records.
 //!
 //! [`slash`] and [`split`] take time in proportion to the key, of which they read at most 256 bytes.
 //!
@@ -67,6 +70,13 @@ pub const LONGEST: usize = 4_194_304;
 /// The length in bytes of the longest key. An output so long has room for each key that [`list`],
 /// [`at_or_after`] and [`before`] give.
 pub const LONGEST_KEY: usize = 256;
+
+/// How many records a screen of [`screen`] has at most.
+pub const PER_SCREEN: usize = 8;
+
+/// A length in bytes that no screen exceeds: an output so long has room for every screen that
+/// [`screen`] gives. This is proved of the library.
+pub const LONGEST_SCREEN: usize = 65_536;
 
 /// A SHA-256 digest.
 pub type Digest = [u8; 32];
@@ -671,16 +681,122 @@ pub struct Difference {
 /// # Ok::<(), Refusal>(())
 /// ```
 pub fn difference(first: &[u8], second: &[u8], out: &mut [u8]) -> Result<Difference, Refusal> {
-    let value = outcome(sys::difference(first, second, out))?;
-    Ok(Difference {
-        length: count(value % (1 << 24)),
-        opened: count(value >> 24),
-    })
+    let (length, opened) = two_counts(outcome(sys::difference(first, second, out))?);
+    Ok(Difference { length, opened })
+}
+
+/// What [`screen`] gives. The table stands at the start of the output.
+#[derive(Clone, Copy, Debug, PartialEq, Eq)]
+pub struct Screen {
+    /// The length of the table, at most [`LONGEST_SCREEN`].
+    pub length: usize,
+    /// The number of screens of the collection, at least 1.
+    pub screens: usize,
+}
+
+/// Writes the register of the records on one screen of a collection: those that stand from `8 * n`
+/// to `8 * n + 7` among the collection's records in key order, counted from 0. Gives the length of
+/// its table and the number of the collection's screens.
+///
+/// The records of a collection are those whose keys have it before the slash. It has one screen for
+/// each [`PER_SCREEN`] of them, and one more for those that are left over; so each record stands on
+/// just one of its screens. A collection without records has one screen, the empty register.
+///
+/// The collection may be any that stands before the slash in some lawful key, present or not: from
+/// 1 to 254 ASCII letters, digits, `.`, `-`, `_`, `:` and `~`, also `.` and `..`. The output is
+/// written as by [`put`]; one of [`LONGEST_SCREEN`] bytes has room for every screen.
+///
+/// Each call judges the whole register again and writes at most 8 records.
+///
+/// # Errors
+///
+/// One of the refusals 1 to 10 where [`check`] refuses the register; then
+/// [`Refusal::UnlawfulKey`] where the collection stands before the slash in no lawful key,
+/// [`Refusal::NoSuchScreen`] where `n` is at or past the number of screens, and [`Refusal::NoRoom`]
+/// where the result's table is longer than the output.
+///
+/// # Examples
+///
+/// ```
+/// use mijdegen::{check, list, put, screen, Refusal, Screen, LONGEST_KEY, LONGEST_SCREEN};
+///
+/// /// Gives the screens of the collection in turn. It ends behind the last one, or with a refusal.
+/// fn screens<'a>(
+///     register: &'a [u8],
+///     collection: &'a [u8],
+/// ) -> impl Iterator<Item = Result<Vec<u8>, Refusal>> + 'a {
+///     let (mut out, mut next) = (vec![0; LONGEST_SCREEN], Some(0));
+///     std::iter::from_fn(move || {
+///         let n = next.take()?;
+///         match screen(register, collection, n, &mut out) {
+///             Ok(found) => {
+///                 next = Some(n + 1);
+///                 Some(Ok(out[..found.length].to_vec()))
+///             }
+///             Err(Refusal::NoSuchScreen) => None,
+///             Err(refusal) => Some(Err(refusal)),
+///         }
+///     })
+/// }
+///
+/// // Ten records of the collection `part`, and records of other collections around them.
+/// let empty = b"\xa2\x61e\x80\x61l\xf6";
+/// let parts: Vec<String> = (0..10).map(|number| format!("part/b{number}")).collect();
+/// let (mut register, mut next) = (empty.to_vec(), vec![0; 3_000]);
+/// for key in parts.iter().map(String::as_str).chain(["part.old/b1", "parts/b1"]) {
+///     let length = put(&register, key.as_bytes(), &[0x11; 32], &mut next)?;
+///     register = next[..length].to_vec();
+/// }
+///
+/// // The screens one after the other are the collection.
+/// let (mut counts, mut keys) = (Vec::new(), Vec::new());
+/// for screen in screens(&register, b"part") {
+///     let screen = screen?;
+///     let count = check(&screen)?;
+///     for n in 0..count {
+///         let mut key = [0; LONGEST_KEY];
+///         let listed = list(&screen, n, &mut key)?.expect("n is less than the count");
+///         keys.push(key[..listed.key_length].to_vec());
+///     }
+///     counts.push(count);
+/// }
+/// assert_eq!(counts, [8, 2]);
+/// assert!(keys.iter().eq(parts.iter().map(String::as_bytes)));
+///
+/// // A refusal is given once.
+/// assert!(screens(&register, b"part/").eq([Err(Refusal::UnlawfulKey)]));
+///
+/// // A collection without records has one screen without records.
+/// let mut out = [0xaa; 10];
+/// let found = screen(&register, b"none", 0, &mut out);
+/// assert_eq!(found, Ok(Screen { length: 7, screens: 1 }));
+/// assert_eq!(out[..7], *empty);
+/// assert_eq!(out[7..], [0; 3]);
+///
+/// assert_eq!(screen(&register, b"none", 1, &mut out), Err(Refusal::NoSuchScreen));
+/// assert_eq!(out, [0; 10]);
+/// assert_eq!(screen(&register, b"part", 1, &mut out), Err(Refusal::NoRoom));
+/// # Ok::<(), Refusal>(())
+/// ```
+pub fn screen(
+    register: &[u8],
+    collection: &[u8],
+    n: usize,
+    out: &mut [u8],
+) -> Result<Screen, Refusal> {
+    let answer = sys::screen(register, collection, n as u64, out);
+    let (length, screens) = two_counts(outcome(answer)?);
+    Ok(Screen { length, screens })
 }
 
 /// Gives a value of the library that counts bytes, records or pages of a slice.
 fn count(value: u64) -> usize {
     usize::try_from(value).expect("the library counts no more than a slice holds")
+}
+
+/// Takes a value of the library apart that holds two counts: the first plus 2^24 times the second.
+fn two_counts(value: u64) -> (usize, usize) {
+    (count(value % (1 << 24)), count(value >> 24))
 }
 
 /// Takes an answer of the library apart. An answer is a number plus 256 times a value: number 0
@@ -698,7 +814,7 @@ fn outcome(answer: u64) -> Result<u64, Refusal> {
 
 #[cfg(test)]
 mod tests {
-    use super::{outcome, Refusal};
+    use super::{outcome, two_counts, Refusal};
 
     #[test]
     fn number_zero_gives_the_value() {
@@ -708,7 +824,19 @@ mod tests {
     }
 
     #[test]
-    fn numbers_1_to_14_give_the_refusal() {
+    fn a_value_comes_apart_into_two_counts() {
+        for first in [0, 1, 7, 4_194_304, (1 << 24) - 1] {
+            for second in [0, 1, 512, (1 << 32) - 1] {
+                assert_eq!(
+                    two_counts(first + (second << 24)),
+                    (first as usize, second as usize)
+                );
+            }
+        }
+    }
+
+    #[test]
+    fn numbers_1_to_15_give_the_refusal() {
         let refusals = [
             Refusal::TooLong,
             Refusal::EndsEarly,
@@ -724,16 +852,17 @@ mod tests {
             Refusal::KeyAbsent,
             Refusal::NoRoom,
             Refusal::FirstAfterLast,
+            Refusal::NoSuchScreen,
         ];
-        for (answer, refusal) in (1..=14).zip(refusals) {
+        for (answer, refusal) in (1..=15).zip(refusals) {
             assert_eq!(outcome(answer), Err(refusal));
         }
     }
 
     #[test]
-    #[should_panic(expected = "the library answered with the unknown number 15")]
-    fn number_15_panics() {
-        let _ = outcome(15);
+    #[should_panic(expected = "the library answered with the unknown number 16")]
+    fn number_16_panics() {
+        let _ = outcome(16);
     }
 
     #[test]

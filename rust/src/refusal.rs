@@ -18,7 +18,8 @@ pub enum Refusal {
     TooManyRecords = 5,
     /// A prefix length is not the shared count.
     WrongPrefix = 6,
-    /// A key in a register or argument breaks the key rule.
+    /// A key in a register or argument breaks the key rule, or a collection argument is the part
+    /// before the slash in no lawful key.
     UnlawfulKey = 7,
     /// A key is not greater than the key before it in tree order.
     KeysNotRising = 8,
@@ -36,15 +37,17 @@ pub enum Refusal {
     NoRoom = 13,
     /// The first key is greater than the last.
     FirstAfterLast = 14,
+    /// A screen number is at or past the number of screens.
+    NoSuchScreen = 15,
 }
 
 impl Refusal {
-    /// Gives the number of the refusal, from 1 to 14.
+    /// Gives the number of the refusal, from 1 to 15.
     pub const fn number(self) -> u8 {
         self as u8
     }
 
-    /// Gives the refusal with this number, or none where the number is not from 1 to 14.
+    /// Gives the refusal with this number, or none where the number is not from 1 to 15.
     pub const fn from_number(number: u8) -> Option<Refusal> {
         Some(match number {
             1 => Refusal::TooLong,
@@ -61,6 +64,7 @@ impl Refusal {
             12 => Refusal::KeyAbsent,
             13 => Refusal::NoRoom,
             14 => Refusal::FirstAfterLast,
+            15 => Refusal::NoSuchScreen,
             _ => return None,
         })
     }
@@ -75,7 +79,9 @@ impl fmt::Display for Refusal {
             Refusal::BytesFollow => "bytes follow the last linked page",
             Refusal::TooManyRecords => "there are more than 4,096 records",
             Refusal::WrongPrefix => "a prefix length is not the shared count",
-            Refusal::UnlawfulKey => "a key breaks the key rule",
+            Refusal::UnlawfulKey => {
+                "a key breaks the key rule, or no lawful key has the collection before its slash"
+            }
             Refusal::KeysNotRising => "a key is not greater than the key before it",
             Refusal::WrongTree => "the pages are not those that the rules give for the same keys",
             Refusal::WrongDigest => "a link's digest is not that of its page",
@@ -85,6 +91,7 @@ impl fmt::Display for Refusal {
             }
             Refusal::NoRoom => "the result is longer than the output, or than 4,194,304 bytes",
             Refusal::FirstAfterLast => "the first key is greater than the last",
+            Refusal::NoSuchScreen => "a screen number is at or past the number of screens",
         })
     }
 }

@@ -205,3 +205,20 @@ pub(crate) fn difference(first: &[u8], second: &[u8], out: &mut [u8]) -> u64 {
         )
     }
 }
+
+/// Writes the register of the records on the n-th screen of the collection, or zeros on refusal,
+/// and gives the answer that holds the table's length and the number of screens.
+pub(crate) fn screen(register: &[u8], collection: &[u8], n: u64, out: &mut [u8]) -> u64 {
+    // SAFETY: As for `put`.
+    unsafe {
+        mijdegen_screen(
+            register.as_ptr(),
+            register.len(),
+            collection.as_ptr(),
+            collection.len(),
+            n,
+            out.as_mut_ptr(),
+            out.len(),
+        )
+    }
+}

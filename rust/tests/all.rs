@@ -24,6 +24,7 @@ mod put;
 mod ranges;
 mod refusal;
 mod remove;
+mod screen;
 mod slash;
 mod stack;
 mod threads;

@@ -8,7 +8,8 @@ use crate::common::sets::{
     value, Kind, COUNTS, HIGH, KINDS,
 };
 use crate::common::writes::{
-    compare_call, compare_lengths, difference_value, expect_outcome, expect_refusal, written, Call,
+    compare_call, compare_lengths, expect_refusal, expect_table, expect_table_and, value_of_two,
+    written, Call,
 };
 use crate::common::Random;
 use independent::{layer, pages, table, tree, tree_of, Set, LONGEST};
@@ -48,8 +49,7 @@ fn expect_difference(first: &Set, second: &Set) -> (Vec<u8>, usize) {
     let expected = table(&lacking(first, second));
     let opened = opened_pages(first, second);
     let call = Call::difference(&table(second));
-    let value = difference_value(expected.len(), opened);
-    expect_outcome(&table(first), &call, Ok(value), &expected);
+    expect_table_and(&table(first), &call, expected.len(), &expected, opened);
     (expected, opened)
 }
 
@@ -62,7 +62,7 @@ fn compare(first: &Set, second: &Set) -> usize {
     assert!(found.as_ref() == Ok(&expected));
     assert_eq!(
         compare_call(&one, &Call::difference(&other), expected.len() + 1),
-        Ok(difference_value(expected.len(), opened))
+        Ok(value_of_two(expected.len(), opened))
     );
     // The difference does for a merge what the whole register does.
     assert!(written(&one, &Call::merge(&expected)) == written(&one, &Call::merge(&other)));
@@ -77,9 +77,7 @@ fn equal_registers() {
         let register = table(&set);
         let call = Call::difference(&register);
         for length in [7, 8, register.len() + 1] {
-            let mut output = EMPTY.to_vec();
-            output.resize(length, 0);
-            expect_outcome(&register, &call, Ok(7), &output);
+            expect_table(&register, &call, length, &EMPTY);
         }
         for length in [0, 6] {
             expect_refusal(&register, &call, length, 13);
@@ -438,7 +436,7 @@ fn full_registers() {
             }
             for (one, other) in [(&first, &second), (&second, &first)] {
                 let length = table(&lacking(one, other)).len();
-                let found = difference_value(length, opened_pages(one, other));
+                let found = value_of_two(length, opened_pages(one, other));
                 let (one, call) = (table(one), Call::difference(&table(other)));
                 assert_eq!(compare_call(&one, &call, length + 100), Ok(found));
                 expect_refusal(&one, &call, length - 1, 13);
@@ -522,10 +520,7 @@ fn every_length_of_the_output() {
         }
         let near = expected.len()..expected.len() + 70;
         for length in near.chain([LONGEST - 1, LONGEST, LONGEST + 1, LONGEST + 1_000]) {
-            let mut output = expected.clone();
-            output.resize(length, 0);
-            let value = difference_value(expected.len(), opened);
-            expect_outcome(&first, &call, Ok(value), &output);
+            expect_table_and(&first, &call, length, &expected, opened);
             cases += 1;
         }
         lengths += expected.len() + 70 + 4;

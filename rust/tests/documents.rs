@@ -592,15 +592,18 @@ fn every_edit_is_cited() {
 /// The promises say that the proofs have the statements' names in lower case.
 #[test]
 fn every_statement_has_its_proof() {
-    let found = read("crates/promises/specs/Promises.antt");
-    let found = statements(&found);
-    assert!(!found.is_empty());
-    let files = Repository::load().files.into_iter();
-    let proofs = files.filter(|(path, _)| path.starts_with("crates/promises/proofs/"));
-    let proofs: String = proofs.map(|(_, text)| text).collect();
-    for name in found {
-        let proof = format!("\npub {} : {name}\n", in_lower_case(name));
-        assert!(proofs.contains(&proof), "no proof of `{name}`");
+    for crate_name in ["promises", "collections"] {
+        let found = read(&format!("crates/{crate_name}/specs/Promises.antt"));
+        let found = statements(&found);
+        assert!(!found.is_empty());
+        let files = Repository::load().files.into_iter();
+        let folder = format!("crates/{crate_name}/proofs/");
+        let proofs = files.filter(|(path, _)| path.starts_with(&folder));
+        let proofs: String = proofs.map(|(_, text)| text).collect();
+        for name in found {
+            let proof = format!("\npub {} : {name}\n", in_lower_case(name));
+            assert!(proofs.contains(&proof), "no proof of `{name}`");
+        }
     }
 }
 

@@ -64,6 +64,7 @@ fn as_arguments() {
                 Call::put(&key, &VALUE),
                 Call::join(&key, &VALUE),
                 Call::remove(&key),
+                Call::screen(&key, 0),
             ] {
                 expect_refusal(&register, &call, register.len() + 500, 7);
             }

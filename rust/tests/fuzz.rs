@@ -1,4 +1,4 @@
-//! All fourteen calls on random and damaged registers, against the independent crate.
+//! All fifteen calls on random and damaged registers, against the independent crate.
 //!
 //! The rounds of the gate are always the same. More of them, from another seed:
 //!
@@ -13,11 +13,11 @@ use crate::common::calls::{
 use crate::common::forge::{link_to, Entry, Page};
 use crate::common::lists::{damaged, drawn_value, out_length, Source};
 use crate::common::neighbours::{compare_neighbour, NEIGHBOURS};
-use crate::common::sets::{part, set, Kind, KINDS};
+use crate::common::sets::{collection_of, part, records_of, set, Kind, KINDS, NEAR_COLLECTIONS};
 use crate::common::writes::{compare_call, length_in, Call};
 use crate::common::Random;
 use independent::{table, Set};
-use mijdegen::{check, digest, layer, Refusal};
+use mijdegen::{check, digest, layer, Refusal, PER_SCREEN};
 use std::env;
 use std::thread;
 
@@ -36,7 +36,7 @@ fn all_calls() {
     assert_ne!(seed, 0, "the seed 0 cannot be taken");
 
     let sources = sources();
-    let mut counts = [0; 15];
+    let mut counts = [0; 16];
     for round in 0..rounds {
         // Each round has a seed of its own, so that it can be run alone.
         let told = Told(seed + round);
@@ -51,7 +51,7 @@ fn all_calls() {
             println!("{} rounds, answers by number: {counts:?}", round + 1);
         }
     }
-    assert_eq!(counts.iter().sum::<u64>(), 14 * rounds);
+    assert_eq!(counts.iter().sum::<u64>(), 15 * rounds);
     println!("{rounds} rounds, answers by number: {counts:?}");
     // Every number is answered, and a good part of the calls are done.
     if rounds >= ROUNDS {
@@ -77,7 +77,8 @@ impl Drop for Told {
     }
 }
 
-/// Gives keys of each kind, keys of all kinds together, and few keys.
+/// Gives keys of each kind, keys of all kinds together, few keys, and keys of collections that
+/// begin with one another.
 fn sources() -> Vec<Source> {
     let mut sources: Vec<Source> = KINDS
         .iter()
@@ -86,11 +87,14 @@ fn sources() -> Vec<Source> {
     let all = KINDS.map(|kind| set(kind, 12)).into_iter().flatten();
     sources.push(Source::new(all.map(|(key, _)| key)));
     sources.push(Source::new(set(Kind::Chains, 6).into_keys()));
+    let mut random = Random::new(1);
+    let near = NEAR_COLLECTIONS.map(|collection| records_of(&mut random, collection, 20));
+    sources.push(Source::new(near.into_iter().flatten().map(|(key, _)| key)));
     sources
 }
 
-/// Runs all fourteen calls once and counts the numbers that they answer.
-fn run(random: &mut Random, sources: &[Source], counts: &mut [u64; 15]) {
+/// Runs all fifteen calls once and counts the numbers that they answer.
+fn run(random: &mut Random, sources: &[Source], counts: &mut [u64; 16]) {
     let source = random.one_of(sources);
     let set = draw_set(random, source);
     let register = draw_register(random, source, &set);
@@ -141,6 +145,7 @@ fn run(random: &mut Random, sources: &[Source], counts: &mut [u64; 15]) {
         Call::remove(&source.key(random, &set)),
         Call::merge(&second),
         Call::difference(&second),
+        draw_screen(random, source, &set),
     ];
     for call in &calls {
         count(compare_write(random, &register, call));
@@ -154,6 +159,22 @@ fn draw_run(random: &mut Random, source: &Source, set: &Set) -> Call {
         ends.sort();
     }
     Call::run(&ends[0], &ends[1])
+}
+
+/// Draws a screen of a key's collection, seldom of the key itself, which is no collection. Its
+/// number is seldom far past the end.
+fn draw_screen(random: &mut Random, source: &Source, set: &Set) -> Call {
+    let key = source.key(random, set);
+    let collection = match random.below(8) {
+        0 => &key,
+        _ => collection_of(&key),
+    };
+    let n = match random.below(8) {
+        0 => random.next(),
+        1 => random.below(600) as u64,
+        _ => random.below(set.len() / PER_SCREEN + 1) as u64,
+    };
+    Call::screen(collection, n)
 }
 
 /// Compares a writing call for an output that has room, or that has none.

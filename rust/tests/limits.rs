@@ -2,8 +2,8 @@
 
 use crate::common::calls::number_of;
 use crate::common::forge::{Entry, Page};
-use crate::common::sets::{part, set, value, Kind, FULL_KINDS};
-use crate::common::writes::{compare_call, expect_refusal, expect_table, Call};
+use crate::common::sets::{collections, part, screens_of, set, value, Kind, FULL_KINDS};
+use crate::common::writes::{compare_call, expect_refusal, expect_table, expect_table_and, Call};
 use crate::common::Random;
 use independent::{layer, merge_in, table, Set, LONGEST};
 
@@ -151,6 +151,40 @@ fn merge_of_full_registers() {
     expect_refusal(&table(&one), &call, 0, 5);
 }
 
+/// The first screen and the last of each collection in 4,095 records and in 4,096, and number 5 of
+/// one record more.
+#[test]
+fn screen() {
+    let mut cases = 0;
+    for kind in FULL_KINDS {
+        for count in COUNTS {
+            let set = set(kind, count);
+            let register = table(&set);
+            let mut shown = 0;
+            for collection in collections(&set) {
+                let screens = screens_of(&set, collection);
+                let last = screens.len() - 1;
+                for n in [0, last] {
+                    let call = Call::screen(collection, n as u64);
+                    let expected = table(&screens[n]);
+                    match count {
+                        0..=4_096 => {
+                            let length = expected.len();
+                            expect_table_and(&register, &call, length, &expected, last + 1);
+                        }
+                        _ => expect_refusal(&register, &call, expected.len(), 5),
+                    }
+                    cases += 1;
+                }
+                shown += screens.iter().map(Set::len).sum::<usize>();
+            }
+            assert_eq!(shown, count, "{kind:?}");
+        }
+    }
+    // Ordinary keys, on one page too, have 4 collections, the others one.
+    assert_eq!(cases, (4 + 1 + 4 + 1) * 3 * 2);
+}
+
 /// Keys of 256 bytes that share few of them, of layers 3 and 0 in turn: below each entry of the
 /// root stand two pages without entries and one with a record. A longer table would need higher
 /// layers, and one over the greatest length layers of about 31, which no search finds.
@@ -201,7 +235,15 @@ fn the_longest_tables() {
         expect_refusal(first, &call, whole.len() / 2, 13);
         cases += 3;
     }
-    assert_eq!(cases, 2 * 9 + 3 * 3);
+    // Each record is a collection of its own.
+    for n in [0, 2_049, 4_095] {
+        let alone = table(&part(&all, |m| m == n));
+        let call = Call::screen(format!("{n:04}").as_bytes(), 0);
+        expect_table_and(&whole, &call, alone.len(), &alone, 1);
+        expect_refusal(&whole, &call, alone.len() - 1, 13);
+        cases += 2;
+    }
+    assert_eq!(cases, 2 * 9 + 3 * 3 + 3 * 2);
 }
 
 /// Registers of about 13,515 bytes, up to which the library takes short rows, with as many records
@@ -237,6 +279,7 @@ fn as_many_records_as_short_registers_have() {
             Call::run(b"a/-", first),
             Call::merge(&second),
             Call::difference(&second),
+            Call::screen(b"a", count as u64 / 16),
         ] {
             let result = compare_call(&register, &call, 2 * register.len());
             assert!(result.is_ok(), "{count} records");

@@ -4,23 +4,42 @@
 use crate::common::forge::{faulty_registers, one_record, EMPTY};
 use crate::common::neighbours::{expect_neighbour, Neighbour, NEIGHBOURS};
 use crate::common::sets::{set, Kind};
-use crate::common::writes::{difference_value, expect_outcome, expect_refusal, Call};
+use crate::common::writes::{expect_refusal, expect_table_and, Call};
 use independent::{table, Set};
 
 const VALUE: [u8; 32] = [0x11; 32];
 
-/// Expects the first number that is due, or the table where there is none.
-fn expect_first(register: &[u8], call: &Call, out_length: usize, due: &[Option<u8>], table: &[u8]) {
-    let mut output = vec![0; out_length];
-    let first = due.iter().flatten().next();
-    let expected = match first {
-        Some(number) => Err(*number),
-        None => {
-            output[..table.len()].copy_from_slice(table);
-            Ok(table.len())
+/// Expects the first number that is due, or the table where there is none. Gives the number, or 0.
+fn expect_first(
+    register: &[u8],
+    call: &Call,
+    out_length: usize,
+    due: &[Option<u8>],
+    table: &[u8],
+) -> u8 {
+    expect_first_and(register, call, out_length, due, table, 0)
+}
+
+/// Expects the first number that is due, or the table and the second number of the answer where
+/// there is none. Gives the number, or 0.
+fn expect_first_and(
+    register: &[u8],
+    call: &Call,
+    out_length: usize,
+    due: &[Option<u8>],
+    table: &[u8],
+    second: usize,
+) -> u8 {
+    match due.iter().flatten().next() {
+        Some(number) => {
+            expect_refusal(register, call, out_length, *number);
+            *number
         }
-    };
-    expect_outcome(register, call, expected, &output);
+        None => {
+            expect_table_and(register, call, out_length, table, second);
+            0
+        }
+    }
 }
 
 /// Gives the scope's example of each number and registers that are accepted, each with the number
@@ -115,9 +134,8 @@ fn run() {
                 for (out_length, no_room) in [(64, None), (63, Some(13)), (0, Some(13))] {
                     let due = [number, first_fault, last_fault, falling, no_room];
                     let call = Call::run(first, last);
-                    expect_first(&register, &call, out_length, &due, &one_record());
-                    let first_due = due.iter().flatten().next();
-                    counts[usize::from(*first_due.unwrap_or(&0))] += 1;
+                    let number = expect_first(&register, &call, out_length, &due, &one_record());
+                    counts[usize::from(number)] += 1;
                     cases += 1;
                 }
             }
@@ -236,20 +254,63 @@ fn difference() {
         for (second, second_number) in registers(&[one_record()]) {
             for (out_length, no_room) in [(64, None), (63, Some(13)), (0, Some(13))] {
                 let due = [first_number, second_number, no_room];
-                let mut output = vec![0; out_length];
-                let expected = match due.iter().flatten().next() {
-                    Some(number) => Err(*number),
-                    None => {
-                        output.copy_from_slice(&one_record());
-                        Ok(difference_value(64, 1))
-                    }
-                };
-                expect_outcome(&first, &Call::difference(&second), expected, &output);
+                let call = Call::difference(&second);
+                expect_first_and(&first, &call, out_length, &due, &one_record(), 1);
                 cases += 1;
             }
         }
     }
     assert_eq!(cases, (10 + 2) * (10 + 1) * 3);
+}
+
+/// Register, collection, number of the screen, output: all combinations of faults. No screen has
+/// more records than the register, so number 5 is due on lent registers alone.
+#[test]
+fn screen() {
+    let accepted = [one_record(), table(&full_with_a_first())];
+    // The collection `a` has one record, and the others that are lawful have none.
+    let collections = [
+        (&b"a"[..], None, one_record()),
+        (b"ab", None, EMPTY.to_vec()),
+        (b".", None, EMPTY.to_vec()),
+        (b"", Some(7), Vec::new()),
+        (b"a/", Some(7), Vec::new()),
+        (b"a/b1", Some(7), Vec::new()),
+        (&[b'a'; 255], Some(7), Vec::new()),
+    ];
+    let numbers = [
+        (0, None),
+        (1, Some(15)),
+        (1 << 32, Some(15)),
+        (1 << 61, Some(15)),
+        (u64::MAX, Some(15)),
+    ];
+    let (mut cases, mut counts) = (0, [0; 16]);
+    for (register, number) in registers(&accepted) {
+        for (collection, unlawful, shown) in &collections {
+            for (n, past) in numbers {
+                for out_length in [
+                    shown.len() + 9,
+                    shown.len(),
+                    shown.len().saturating_sub(1),
+                    0,
+                ] {
+                    let no_room = (out_length < shown.len()).then_some(13);
+                    let due = [number, *unlawful, past, no_room];
+                    let call = Call::screen(collection, n);
+                    let number = expect_first_and(&register, &call, out_length, &due, shown, 1);
+                    counts[usize::from(number)] += 1;
+                    cases += 1;
+                }
+            }
+        }
+    }
+    assert_eq!(cases, (10 + 2) * 7 * 5 * 4);
+    // Each of 1 to 10 is due on one of the registers, and 7 on 4 collections as well.
+    assert!((1..=10).all(|number| counts[number] >= 7 * 5 * 4));
+    assert_eq!(counts[7], 7 * 5 * 4 + 2 * 4 * 5 * 4);
+    assert_eq!(counts[15], 2 * 3 * 4 * 4);
+    assert_eq!((counts[0], counts[13]), (2 * 3 * 2, 2 * 3 * 2));
 }
 
 /// The count that results is judged behind what is handed over and before the output.

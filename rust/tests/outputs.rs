@@ -2,20 +2,24 @@
 
 use crate::common::calls::{
     mijdegen_difference, mijdegen_join, mijdegen_merge, mijdegen_put, mijdegen_remove,
+    mijdegen_screen,
 };
 use crate::common::forge::{one_record, EMPTY};
 use crate::common::neighbours::NEIGHBOURS;
-use crate::common::sets::{part, set, set_of_layers, Kind};
-use crate::common::writes::{expect_refusal, expect_table, Call};
+use crate::common::sets::{collection_of, part, screens_of, set, set_of_layers, Kind};
+use crate::common::writes::{expect_refusal, expect_table_and, Call};
 use independent::{table, Set, LONGEST};
-use mijdegen::{difference, join, merge, put, remove, run, Listed, Refusal};
+use mijdegen::{difference, join, merge, put, remove, run, screen, Listed, Refusal, Screen};
 use std::ptr;
 
 const VALUE: [u8; 32] = [0x11; 32];
 
-/// Gives five calls on registers of the set, each with its register and its result. Where a record
-/// is new or goes away, it is the n-th, and a run begins there.
-fn calls(set: &Set, n: usize) -> Vec<(Vec<u8>, Call, Vec<u8>)> {
+/// A call with its register, its result and the second number of its answer, 0 where there is none.
+type Case = (Vec<u8>, Call, Vec<u8>, usize);
+
+/// Gives six calls on registers of the set. Where a record is new or goes away, it is the n-th, a
+/// run begins there, and the screen is the last of its collection.
+fn calls(set: &Set, n: usize) -> [Case; 6] {
     let whole = table(set);
     let others = table(&part(set, |other| other != n));
     let odd = table(&part(set, |n| n % 2 == 1));
@@ -23,12 +27,16 @@ fn calls(set: &Set, n: usize) -> Vec<(Vec<u8>, Call, Vec<u8>)> {
     let (key, value) = set.iter().nth(n).expect("n is less than the count");
     let last = set.keys().next_back().expect("there are records");
     let rest = table(&part(set, |other| other >= n));
-    vec![
-        (whole.clone(), Call::run(key, last), rest),
-        (others.clone(), Call::put(key, value), whole.clone()),
-        (others.clone(), Call::join(key, value), whole.clone()),
-        (whole.clone(), Call::remove(key), others),
-        (odd, Call::merge(&even), whole),
+    let screens = screens_of(set, collection_of(key));
+    let shown = table(&screens[screens.len() - 1]);
+    let screen = Call::screen(collection_of(key), screens.len() as u64 - 1);
+    [
+        (whole.clone(), Call::run(key, last), rest, 0),
+        (others.clone(), Call::put(key, value), whole.clone(), 0),
+        (others.clone(), Call::join(key, value), whole.clone(), 0),
+        (whole.clone(), Call::remove(key), others, 0),
+        (odd, Call::merge(&even), whole.clone(), 0),
+        (whole, screen, shown, screens.len()),
     ]
 }
 
@@ -47,20 +55,20 @@ fn every_length_of_the_output() {
     ];
     let (mut cases, mut lengths) = (0, 0);
     for set in &sets {
-        for (register, call, result) in calls(set, set.len() / 2) {
+        for (register, call, result, second) in calls(set, set.len() / 2) {
             for length in 0..result.len() {
                 expect_refusal(&register, &call, length, 13);
                 cases += 1;
             }
             for length in result.len()..result.len() + 70 {
-                expect_table(&register, &call, length, &result);
+                expect_table_and(&register, &call, length, &result, second);
                 cases += 1;
             }
             lengths += result.len() + 70;
         }
     }
     assert_eq!(cases, lengths);
-    assert_eq!(cases, 21_437);
+    assert_eq!(cases, 25_621);
 }
 
 /// Outputs around the greatest length of a table and longer ones: all that follows is zero.
@@ -68,16 +76,16 @@ fn every_length_of_the_output() {
 fn very_long_outputs() {
     let mut cases = 0;
     for set in [set_of_layers(&[0, 1, 0]), set(Kind::Ordinary, 100)] {
-        for (register, call, result) in calls(&set, 1) {
+        for (register, call, result, second) in calls(&set, 1) {
             for length in [LONGEST - 1, LONGEST, LONGEST + 1, LONGEST + 1_000] {
-                expect_table(&register, &call, length, &result);
+                expect_table_and(&register, &call, length, &result, second);
                 // The same call on the first page alone is refused.
                 expect_refusal(&register[..5], &call, length, 2);
                 cases += 2;
             }
         }
     }
-    assert_eq!(cases, 2 * 5 * 4 * 2);
+    assert_eq!(cases, 2 * 6 * 4 * 2);
 }
 
 /// The inputs may lie at any address, and other bytes may stand around them.
@@ -89,14 +97,18 @@ fn any_address() {
     let alone = table(&part(&set, |n| n == 4));
     let record = |n: usize| set.iter().nth(n).expect("there are 10");
     let ((key, value), previous, next) = (record(4), record(3), record(5));
+    let collection = collection_of(key);
+    let shown = table(&screens_of(&set, collection)[0]);
     let mut cases = 0;
     for offset in 0..16 {
         // 3 bytes that stand around them; the last could be the start of a page.
         for around in [0x00, 0xff, 0xa2] {
-            let [register, key, value, second] = [&others[..], key, value, &whole]
-                .map(|bytes| [&vec![around; offset][..], bytes, &[around; 16]].concat());
-            let [register, key, value, second] =
-                [&register, &key, &value, &second].map(|buffer| &buffer[offset..buffer.len() - 16]);
+            let [register, key, value, second, collection] =
+                [&others[..], key, value, &whole, collection]
+                    .map(|bytes| [&vec![around; offset][..], bytes, &[around; 16]].concat());
+            let [register, key, value, second, collection] =
+                [&register, &key, &value, &second, &collection]
+                    .map(|buffer| &buffer[offset..buffer.len() - 16]);
 
             let mut out = vec![0xaa; whole.len()];
             assert_eq!(put(register, key, value, &mut out), Ok(whole.len()));
@@ -111,7 +123,14 @@ fn any_address() {
             out.truncate(alone.len());
             assert_eq!(run(second, key..=key, &mut out), Ok(alone.len()));
             assert!(out == alone, "run at {offset}");
-            cases += 5;
+            out.resize(shown.len(), 0xaa);
+            let found = Screen {
+                length: shown.len(),
+                screens: 1,
+            };
+            assert_eq!(screen(second, collection, 0, &mut out), Ok(found));
+            assert!(out == shown, "screen at {offset}");
+            cases += 6;
 
             // The record beside the key is the one after it where the key is absent.
             for (call, (beside, value)) in NEIGHBOURS.into_iter().zip([next, previous]) {
@@ -126,7 +145,7 @@ fn any_address() {
             }
         }
     }
-    assert_eq!(cases, 16 * 3 * 7);
+    assert_eq!(cases, 16 * 3 * 8);
 }
 
 /// Lengths whose low 32 bits alone would be those of what is wanted. Most of the memory is never
@@ -167,6 +186,8 @@ fn lengths_over_32_bits() {
         let found = difference(first, second, &mut out).map(|found| found.length);
         refused(found, too_long, &mut out);
     }
+    let found = screen(register, b"a", 0, &mut out).map(|found| found.length);
+    refused(found, too_long, &mut out);
 
     long[..4].copy_from_slice(b"a/b1");
     let key = &long[..(1 << 32) + 4];
@@ -185,6 +206,9 @@ fn lengths_over_32_bits() {
     refused(put(&EMPTY, key, &VALUE, &mut out), unlawful, &mut out);
     refused(join(&EMPTY, key, &VALUE, &mut out), unlawful, &mut out);
     refused(remove(&one_record(), key, &mut out), unlawful, &mut out);
+    let collection = &long[..(1 << 32) + 1];
+    let found = screen(&one_record(), collection, 0, &mut out).map(|found| found.length);
+    refused(found, unlawful, &mut out);
 
     let value = &long[..(1 << 32) + 32];
     let other_length = Refusal::ValueLength;
@@ -227,5 +251,10 @@ fn raw_calls_do_not_touch_empty_buffers() {
             assert_eq!(call(none, 0, reg, reg_len, no_out, 0), 2);
             assert_eq!(call(reg, reg_len, reg, reg_len, no_out, 0), 13);
         }
+        assert_eq!(mijdegen_screen(none, 0, none, 0, 0, no_out, 0), 2);
+        assert_eq!(mijdegen_screen(none, 0, key, 1, 0, no_out, 0), 2);
+        assert_eq!(mijdegen_screen(reg, reg_len, none, 0, 0, no_out, 0), 7);
+        assert_eq!(mijdegen_screen(reg, reg_len, key, 1, 1, no_out, 0), 15);
+        assert_eq!(mijdegen_screen(reg, reg_len, key, 1, 0, no_out, 0), 13);
     }
 }

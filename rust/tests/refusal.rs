@@ -1,11 +1,11 @@
 //! The names and numbers of the refusals.
 
-use mijdegen::{Refusal, LONGEST, LONGEST_KEY};
+use mijdegen::{Refusal, LONGEST, LONGEST_KEY, LONGEST_SCREEN, PER_SCREEN};
 use std::collections::HashSet;
 use std::error::Error;
 
-/// The 14 refusals with their numbers and their names in C.
-const REFUSALS: [(Refusal, u8, &str); 14] = [
+/// The 15 refusals with their numbers and their names in C.
+const REFUSALS: [(Refusal, u8, &str); 15] = [
     (Refusal::TooLong, 1, "MIJDEGEN_TOO_LONG"),
     (Refusal::EndsEarly, 2, "MIJDEGEN_ENDS_EARLY"),
     (Refusal::Departs, 3, "MIJDEGEN_DEPARTS"),
@@ -20,6 +20,7 @@ const REFUSALS: [(Refusal, u8, &str); 14] = [
     (Refusal::KeyAbsent, 12, "MIJDEGEN_KEY_ABSENT"),
     (Refusal::NoRoom, 13, "MIJDEGEN_NO_ROOM"),
     (Refusal::FirstAfterLast, 14, "MIJDEGEN_FIRST_AFTER_LAST"),
+    (Refusal::NoSuchScreen, 15, "MIJDEGEN_NO_SUCH_SCREEN"),
 ];
 
 #[test]
@@ -33,8 +34,8 @@ fn numbers_lead_to_refusals_and_back() {
 #[test]
 fn other_numbers_are_no_refusal() {
     assert_eq!(Refusal::from_number(0), None);
-    // 241 numbers.
-    for number in 15..=255 {
+    // 240 numbers.
+    for number in 16..=255 {
         assert_eq!(Refusal::from_number(number), None);
     }
 }
@@ -48,7 +49,7 @@ fn each_refusal_has_its_own_message() {
             error.to_string()
         })
         .collect();
-    assert_eq!(messages.len(), 14);
+    assert_eq!(messages.len(), 15);
     assert!(!messages.contains(""));
 }
 
@@ -68,14 +69,21 @@ fn the_header_has_the_same_numbers() {
         .collect();
     assert_eq!(found, expected);
 
-    let longest = format!("#define MIJDEGEN_LONGEST {LONGEST}");
-    assert!(header.lines().any(|line| line == longest));
-    let longest_key = format!("#define MIJDEGEN_LONGEST_KEY {LONGEST_KEY}");
-    assert!(header.lines().any(|line| line == longest_key));
+    for (name, number) in [
+        ("LONGEST", LONGEST),
+        ("LONGEST_KEY", LONGEST_KEY),
+        ("PER_SCREEN", PER_SCREEN),
+        ("LONGEST_SCREEN", LONGEST_SCREEN),
+    ] {
+        let defined = format!("#define MIJDEGEN_{name} {number}");
+        assert!(header.lines().any(|line| line == defined), "{name}");
+    }
 }
 
 #[test]
 fn the_longest_lengths() {
     assert_eq!(LONGEST, 4_194_304);
     assert_eq!(LONGEST_KEY, 256);
+    assert_eq!(PER_SCREEN, 8);
+    assert_eq!(LONGEST_SCREEN, 65_536);
 }

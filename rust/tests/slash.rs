@@ -336,6 +336,13 @@ fn the_other_calls_agree() {
             let found = call.safe(&EMPTY, &mut []);
             assert_eq!(found.err(), due.or(Some(without_room)), "{key:?}");
         }
+        // The part before the slash of a lawful key is a collection, and the key itself is not.
+        if let Ok(parts) = split(key) {
+            let call = Call::screen(parts.collection, 0);
+            assert_eq!(call.safe(&EMPTY, &mut []), Err(13), "{key:?}");
+            let call = Call::screen(key, 0);
+            assert_eq!(call.safe(&EMPTY, &mut []), Err(7), "{key:?}");
+        }
         let register = table(&Set::from([(key.clone(), value)]));
         assert_eq!(number_of(&register), due.unwrap_or(0), "{key:?}");
         refused += usize::from(due.is_some());

@@ -4,13 +4,13 @@ use crate::common::forge::{left_chain, link_to, longest_page, right_chain, Entry
 use crate::common::lists::{full_set, List};
 use crate::common::neighbours::{expect_neighbour, Neighbour, NEIGHBOURS};
 use crate::common::sets::{
-    greatest_key, just_after, just_before, least_key, long_keys_in_turn, one_page_below_high, part,
-    set, Kind, FULL_KINDS, HIGH, KINDS,
+    collection_of, greatest_key, just_after, just_before, least_key, long_keys_in_turn,
+    one_page_below_high, part, screens_of, set, Kind, FULL_KINDS, HIGH, KINDS,
 };
 use crate::common::writes::{expect_outcome, expect_table, Call};
 use crate::common::Random;
 use independent::table;
-use mijdegen::{check, digest, layer, list, lookup, slash, Refusal, LONGEST};
+use mijdegen::{check, digest, layer, list, lookup, slash, Refusal, LONGEST, PER_SCREEN};
 use std::thread;
 
 const STACK: usize = 512 * 1024;
@@ -68,6 +68,10 @@ fn call_with_small_stack(register: Vec<u8>, key: &[u8], n: usize) -> u8 {
     write_with_small_stack(&EMPTY, Call::merge(&register), room);
     write_with_small_stack(&EMPTY, Call::difference(&register), room);
     write_with_small_stack(&register, Call::difference(&EMPTY), room);
+    // The first screen, a later one where there are so many, and one that there is not.
+    for n in [0, 100, u64::MAX] {
+        write_with_small_stack(&register, Call::screen(collection_of(key), n), room);
+    }
 
     let key = key.to_vec();
     let found = with_small_stack(move || {
@@ -251,6 +255,14 @@ fn the_deepest_results() {
     for call in NEIGHBOURS {
         neighbour_with_small_stack(&parted, call, key);
     }
+    // The key's screen has 17 pages one below the other, and those beside it are one page each.
+    let collection = collection_of(key);
+    let screens = screens_of(&with, collection);
+    let own = screens.iter().position(|screen| screen.contains_key(key));
+    let own = own.expect("the key stands on one of the screens") as u64;
+    for n in [own - 1, own, own + 1] {
+        write_with_small_stack(&parted, Call::screen(collection, n), parted.len());
+    }
     with_small_stack(move || {
         let put = Call::put(key, &[0x77; 32]);
         expect_table(&one_page, &put, parted.len(), &parted);
@@ -259,9 +271,9 @@ fn the_deepest_results() {
 }
 
 /// Runs that begin or end inside one page of long keys: of layers 3 and 0 in turn, so that below
-/// each entry of the root stands a chain of pages.
+/// each entry of the root stands a chain of pages. Screens of these keys too.
 #[test]
-fn runs_of_long_keys() {
+fn runs_and_screens_of_long_keys() {
     let set = long_keys_in_turn(&[3, 0], 2_000);
     let register = table(&set);
     let keys: Vec<_> = set.keys().collect();
@@ -272,9 +284,11 @@ fn runs_of_long_keys() {
         for call in NEIGHBOURS {
             neighbour_with_small_stack(&register, call, keys[from]);
         }
-        cases += 3;
+        let call = Call::screen(collection_of(keys[from]), (from / PER_SCREEN) as u64);
+        write_with_small_stack(&register, call, register.len());
+        cases += 4;
     }
-    assert_eq!(cases, 4 * 3);
+    assert_eq!(cases, 4 * 4);
 }
 
 /// A deep register that is refused, as the second of a merge or difference, behind a full one.

@@ -2,7 +2,7 @@
 
 use crate::common::lists::{List, Source};
 use crate::common::neighbours::NEIGHBOURS;
-use crate::common::sets::{greatest_key, least_key, set, value, Kind};
+use crate::common::sets::{collections, greatest_key, least_key, screens_of, set, value, Kind};
 use crate::common::writes::{expect_outcome, Call};
 use crate::common::Random;
 use independent::{table, Set};
@@ -76,21 +76,25 @@ fn writing_calls_at_the_same_time() {
 }
 
 #[test]
-fn differences_and_runs_at_the_same_time() {
-    // 4 threads with 40 pairs of registers each, all different, and as many runs. What is due is
-    // known before they run side by side, 20 times each.
+fn differences_runs_and_screens_at_the_same_time() {
+    // 4 threads with 40 pairs of registers each, all different, and as many runs and screens. What
+    // is due is known before they run side by side, 20 times each.
     thread::scope(|scope| {
         for seed in 1..=4 {
             scope.spawn(move || {
                 let mut random = Random::new(30 + seed);
-                let source = Source::new(set(Kind::Mixed, 60).into_keys());
-                let cases: Vec<_> = (0..80)
+                // Many collections of one record, and one of several screens.
+                let keys = [Kind::Mixed, Kind::SharedPrefix].map(|kind| set(kind, 60).into_keys());
+                let source = Source::new(keys.into_iter().flatten());
+                let cases: Vec<_> = (0..120)
                     .map(|case| {
-                        let first = table(&source.set(&mut random, 60));
-                        let call = match case % 2 {
+                        let held = source.set(&mut random, 60);
+                        let call = match case % 3 {
                             0 => Call::difference(&table(&source.set(&mut random, 60))),
-                            _ => drawn_run(&mut random, &source),
+                            1 => drawn_run(&mut random, &source),
+                            _ => drawn_screen(&mut random, &held),
                         };
+                        let first = table(&held);
                         let mut output = vec![0; 40_000];
                         let expected = call.independent(&first, &mut output);
                         (first, call, expected, output)
@@ -115,6 +119,15 @@ fn drawn_run(random: &mut Random, source: &Source) -> Call {
     let mut ends = [random.one_of(&keys), random.one_of(&keys)];
     ends.sort();
     Call::run(ends[0], ends[1])
+}
+
+/// Draws a screen of one of the set's collections, or of one without records.
+fn drawn_screen(random: &mut Random, set: &Set) -> Call {
+    let mut named: Vec<&[u8]> = collections(set).into_iter().collect();
+    named.push(b"none");
+    let collection = *random.one_of(&named);
+    let screens = screens_of(set, collection).len();
+    Call::screen(collection, random.below(screens) as u64)
 }
 
 /// A record, or none where a call gives none, and the output with its key.

@@ -6,13 +6,13 @@ use native.Mathlib.Omega.{arith}
 use lib.Dec.{eqb}
 use borrow.Author.Tests.{ne-eqb}
 use Rattle.answer.specs.declared.Refusal.{Refusal}
-use Rattle.answer.specs.declared.Refusal.the-variants.{TooLong, EndsEarly, Departs, BytesFollow, TooManyRecords, WrongPrefix, UnlawfulKey, KeysNotRising, WrongTree, WrongDigest, ValueLength, KeyAbsent, NoRoom, FirstAfterLast}
+use Rattle.answer.specs.declared.Refusal.the-variants.{TooLong, EndsEarly, Departs, BytesFollow, TooManyRecords, WrongPrefix, UnlawfulKey, KeysNotRising, WrongTree, WrongDigest, ValueLength, KeyAbsent, NoRoom, FirstAfterLast, NoSuchScreen}
 use Rattle.answer.specs.declared.Answer.{Answer}
 use Rattle.answer.specs.declared.Answer.the-variants.{Done, Refused}
-use Rattle.answer.specs.declared.Differed.{Differed}
-use Rattle.answer.specs.declared.Differed.the-variants.{Found, Refused as DifferenceRefused}
-use Rattle.answer.specs.Answer.{numberOf, said, saidOfDifference, encoded, encodedDifference, takenApart, takenApartInTwo, ComesApart}
-use Rattle.answer.specs.Inner.{LengthFits}
+use Rattle.answer.specs.declared.AnswerOfTwo.{AnswerOfTwo}
+use Rattle.answer.specs.declared.AnswerOfTwo.the-variants.{Both, Refused as BothRefused}
+use Rattle.answer.specs.Answer.{numberOf, said, saidOfTwo, encoded, encodedOfTwo, takenApart, takenApartInTwo, ComesApart}
+use Rattle.answer.specs.Inner.{FirstFits}
 
 -- a number is from 1 to 255
 number-within : (r : Refusal) → (0 < numberOf r) × (numberOf r < 256)
@@ -30,6 +30,7 @@ number-within ValueLength = omega arith
 number-within KeyAbsent = omega arith
 number-within NoRoom = omega arith
 number-within FirstAfterLast = omega arith
+number-within NoSuchScreen = omega arith
 
 -- so it is its own remainder by 256, which is not 0
 module _ (r : Refusal) where
@@ -53,10 +54,10 @@ one-comes-apart (Refused r) = rw (remainder r, not-done r)
 pub comes-apart : ComesApart
 comes-apart = (one-comes-apart, λ r. omega (arith, number-within r))
 
-pub two-come-apart : (d : Differed) → LengthFits d → takenApartInTwo (encodedDifference d) ≡ saidOfDifference d
+pub two-come-apart : (d : AnswerOfTwo) → FirstFits d → takenApartInTwo (encodedOfTwo d) ≡ saidOfTwo d
 unfolding takenApartInTwo
-two-come-apart (Found n count) h =
+two-come-apart (Both n count) h =
     let first : (n + 2 ^ 24 * count) % 2 ^ 24 ≡ n = omega arith in
     let second : (n + 2 ^ 24 * count) / 2 ^ 24 ≡ count = omega arith in
     rw (value-remainder (n + 2 ^ 24 * count), value-quotient (n + 2 ^ 24 * count), first, second)
-two-come-apart (DifferenceRefused r) h = rw (remainder r, not-done r)
+two-come-apart (BothRefused r) h = rw (remainder r, not-done r)

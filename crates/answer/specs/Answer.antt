@@ -1,15 +1,15 @@
--- The fourteen numbers, what an answer says, and an answer as one number.
+-- The fifteen numbers, what an answer says, and an answer as one number.
 use Prim.Native.Nat.{ℕ, _+_, _*_, _/_, _%_, _^_}
 use mathlib.Core.Path.{_≡_}
 use mathlib.Core.Bool.{cond}
 use mathlib.Core.List.{List, [], _∷_}
 use lib.Dec.{eqb}
 use Rattle.answer.specs.declared.Refusal.{Refusal}
-use Rattle.answer.specs.declared.Refusal.the-variants.{TooLong, EndsEarly, Departs, BytesFollow, TooManyRecords, WrongPrefix, UnlawfulKey, KeysNotRising, WrongTree, WrongDigest, ValueLength, KeyAbsent, NoRoom, FirstAfterLast}
+use Rattle.answer.specs.declared.Refusal.the-variants.{TooLong, EndsEarly, Departs, BytesFollow, TooManyRecords, WrongPrefix, UnlawfulKey, KeysNotRising, WrongTree, WrongDigest, ValueLength, KeyAbsent, NoRoom, FirstAfterLast, NoSuchScreen}
 use Rattle.answer.specs.declared.Answer.{Answer}
 use Rattle.answer.specs.declared.Answer.the-variants.{Done, Refused}
-use Rattle.answer.specs.declared.Differed.{Differed}
-use Rattle.answer.specs.declared.Differed.the-variants.{Found, Refused as DifferenceRefused}
+use Rattle.answer.specs.declared.AnswerOfTwo.{AnswerOfTwo}
+use Rattle.answer.specs.declared.AnswerOfTwo.the-variants.{Both, Refused as BothRefused}
 
 -- 1: a lent register or a digest's input is longer than 4,194,304 bytes.
 -- 2: each byte fits the page form, but the input ends while a byte or linked page is due.
@@ -17,7 +17,7 @@ use Rattle.answer.specs.declared.Differed.the-variants.{Found, Refused a
 -- 4: bytes follow the last linked page.
 -- 5: more than 4,096 records, given or resulting.
 -- 6: a prefix length is not the shared count.
--- 7: a key in a register or argument breaks the key rule.
+-- 7: a key in a register or argument breaks the key rule, or a collection name is the part before the slash in no lawful key.
 -- 8: a key is not greater than the key before it in tree order.
 -- 9: the pages, their entries and their linked gaps are not those that the rules give for the same keys.
 -- 10: a link's digest is not that of its page.
@@ -25,6 +25,7 @@ use Rattle.answer.specs.declared.Differed.the-variants.{Found, Refused a
 -- 12: the key is absent, for lookup and remove; no record lies at or after the key, or before it.
 -- 13: the result's table (for a single record, the key) is longer than the output, or than 4,194,304 bytes.
 -- 14: a first key is greater than the last.
+-- 15: a screen number is at or past the number of screens.
 abbrev pub numberOf : Refusal → ℕ
 numberOf TooLong = 1
 numberOf EndsEarly = 2
@@ -40,6 +41,7 @@ numberOf ValueLength = 11
 numberOf KeyAbsent = 12
 numberOf NoRoom = 13
 numberOf FirstAfterLast = 14
+numberOf NoSuchScreen = 15
 
 -- What an answer says: a refusal its number alone, a call that is done its values.
 pub data Said : Type 0 where
@@ -50,10 +52,10 @@ abbrev pub said : Answer → Said
 said (Done v) = doneWith (v ∷ [])
 said (Refused r) = refusedWith (numberOf r)
 
--- The difference has two values: the table's length and the number of opened pages.
-abbrev pub saidOfDifference : Differed → Said
-saidOfDifference (Found n count) = doneWith (n ∷ count ∷ [])
-saidOfDifference (DifferenceRefused r) = refusedWith (numberOf r)
+-- Some calls have two values: a table's length and a count beside it.
+abbrev pub saidOfTwo : AnswerOfTwo → Said
+saidOfTwo (Both n count) = doneWith (n ∷ count ∷ [])
+saidOfTwo (BothRefused r) = refusedWith (numberOf r)
 
 -- An answer as one number: the refusal's number alone, or 256 times the value.
 abbrev pub encoded : Answer → ℕ
@@ -61,9 +63,9 @@ encoded (Done v) = 256 * v
 encoded (Refused r) = numberOf r
 
 -- Of two values the second is multiplied by 2^24; the first, a table's length, is below that.
-abbrev pub encodedDifference : Differed → ℕ
-encodedDifference (Found n count) = 256 * (n + 2 ^ 24 * count)
-encodedDifference (DifferenceRefused r) = numberOf r
+abbrev pub encodedOfTwo : AnswerOfTwo → ℕ
+encodedOfTwo (Both n count) = 256 * (n + 2 ^ 24 * count)
+encodedOfTwo (BothRefused r) = numberOf r
 
 -- The one number taken apart: its remainder by 256 is a refusal's number, or 0; then the quotient is the value.
 unfoldable pub takenApart : ℕ → Said

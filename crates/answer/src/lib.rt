@@ -1,9 +1,9 @@
-// The answers of the public calls and the fourteen refusals. The functions are for the crates above and no public calls.
+// The answers of the public calls and the fifteen refusals. The functions are for the crates above and no public calls.
 ghost use mathlib.Core.Path.{_≡_};
-ghost use Rattle.answer.specs.Answer.{numberOf, encoded, encodedDifference};
-ghost use Rattle.answer.specs.Inner.{LengthFits};
+ghost use Rattle.answer.specs.Answer.{numberOf, encoded, encodedOfTwo};
+ghost use Rattle.answer.specs.Inner.{FirstFits, withSecond};
 
-// Why a call refuses, in the order in which the reasons are judged.
+// Why a call refuses, in the order of the numbers.
 pub enum Refusal {
     TooLong,
     EndsEarly,
@@ -19,6 +19,7 @@ pub enum Refusal {
     KeyAbsent,
     NoRoom,
     FirstAfterLast,
+    NoSuchScreen,
 }
 
 // What a call answers: a value, or the reason of a refusal.
@@ -27,9 +28,9 @@ pub enum Answer {
     Refused(Refusal),
 }
 
-// What the difference answers: the table's length and the number of opened pages, or the reason of a refusal.
-pub enum Differed {
-    Found(u32, u32),
+// What a call with two values answers: a table's length and a count beside it, or the reason of a refusal.
+pub enum AnswerOfTwo {
+    Both(u32, u32),
     Refused(Refusal),
 }
 
@@ -52,6 +53,7 @@ pub fn number_of(refusal: Refusal) -> u64
         Refusal::KeyAbsent => 12,
         Refusal::NoRoom => 13,
         Refusal::FirstAfterLast => 14,
+        Refusal::NoSuchScreen => 15,
     }
 }
 
@@ -65,13 +67,23 @@ pub fn encode(answer: Answer) -> u64
     }
 }
 
-// The same of a difference, whose value is the length and, above its 24 bits, the number of opened pages.
-pub fn encode_difference(differed: Differed) -> u64
-    requires { ⌜ LengthFits differed ⌝ }
-    ensures { λ r. ⌜ r ≡ encodedDifference differed ⌝ }
+// The same of two values: the second stands above the 24 bits of the first.
+pub fn encode_two(answer: AnswerOfTwo) -> u64
+    requires { ⌜ FirstFits answer ⌝ }
+    ensures { λ r. ⌜ r ≡ encodedOfTwo answer ⌝ }
 {
-    match differed {
-        Differed::Found(length, opened) => 256 * (length as u64 + 0x100_0000 * (opened as u64)),
-        Differed::Refused(refusal) => number_of(refusal),
+    match answer {
+        AnswerOfTwo::Both(first, second) => 256 * (first as u64 + 0x100_0000 * (second as u64)),
+        AnswerOfTwo::Refused(refusal) => number_of(refusal),
+    }
+}
+
+// An answer with a second value beside its own.
+pub fn with_second(answer: Answer, second: u32) -> AnswerOfTwo
+    ensures { λ r. ⌜ r ≡ withSecond answer second ⌝ }
+{
+    match answer {
+        Answer::Done(first) => AnswerOfTwo::Both(first, second),
+        Answer::Refused(refusal) => AnswerOfTwo::Refused(refusal),
     }
 }

@@ -5,7 +5,8 @@ use mathlib.Core.Bool.{Bool, true, false, cond, _&&_, false≢true}
 use mathlib.Core.List.{List, [], _∷_, _++_}
 use native.Mathlib.Omega.{arith}
 use native.Mathlib.Nat.{sub-zero, zero-sub, suc-sub-suc}
-use lib.ListN.{length, getD, take, drop, take-append-drop}
+use lib.ListN.{length, getD, take, drop, replicate, take-append-drop}
+use lib.Seq.{take-nil}
 use Rattle.bytestring.specs.Bytes.{Bytes, zeros}
 
 -- ---- tests (`cases`, which splits on a test, is in borrow.Table.Steps)
@@ -68,7 +69,17 @@ bytes-of (b ∷ s) f = (f 0 (omega arith), bytes-of s (λ i h. f (suc i) (omega 
 pub part-is : (l : List ℕ) (from size : ℕ) → take (from + size - from) (drop from l) ≡ take size (drop from l)
 part-is l from size = let e : from + size - from ≡ size = omega arith in rw e
 
+-- and as what is left of the front of a list
+pub part-taken : {A : Type 0} (n i : ℕ) (l : List A) → take (n - i) (drop i l) ≡ drop i (take n l)
+part-taken n zero l = rw sub-zero
+part-taken zero (suc i) l = let e : 0 - suc i ≡ 0 = omega arith in rw e
+part-taken (suc n) (suc i) [] = take-nil (suc n - suc i)
+part-taken (suc n) (suc i) (w ∷ l) = rw suc-sub-suc (part-taken n i l)
+
+pub drop-replicate : {A : Type 0} (a : A) (k n : ℕ) → drop k (replicate n a) ≡ replicate (n - k) a
+drop-replicate a zero n = ap (λ (x : ℕ). replicate x a) (sym (sub-zero n))
+drop-replicate a (suc k) zero = ap (λ (x : ℕ). replicate x a) (sym (zero-sub (suc k)))
+drop-replicate a (suc k) (suc n) = drop-replicate a k n ∙ ap (λ (x : ℕ). replicate x a) (sym (suc-sub-suc n k))
+
 pub drop-zeros : (k n : ℕ) → drop k (zeros n) ≡ zeros (n - k)
-drop-zeros zero n = ap (λ (x : ℕ). zeros x) (sym (sub-zero n))
-drop-zeros (suc k) zero = ap (λ (x : ℕ). zeros x) (sym (zero-sub (suc k)))
-drop-zeros (suc k) (suc n) = drop-zeros k n ∙ ap (λ (x : ℕ). zeros x) (sym (suc-sub-suc n k))
+drop-zeros k n = drop-replicate 0 k n

@@ -1,17 +1,16 @@
 -- Two rows combined, turn by turn.
-use Prim.Native.Nat.{ℕ, zero, suc, _+_, _-_, _≤_, _<_}
+use Prim.Native.Nat.{ℕ, _+_, _-_, _≤_, _<_}
 use mathlib.Core.Path.{_≡_, refl, sym, ap, subst, _∙_}
 use mathlib.Core.Bool.{Bool, true, false, cond}
 use mathlib.Core.List.{List, [], _∷_, _++_, map, append-assoc, append-nil, map-append}
-use native.Mathlib.Nat.{sub-zero, suc-sub-suc}
 use native.Mathlib.Numerals.{add-one}
 use native.Mathlib.Omega.{arith}
 use lib.ListN.{length, take, drop, getD, length-append, length-map}
-use lib.Seq.{take-suc-set, take-nil}
+use lib.Seq.{take-suc-set}
 use borrow.Table.Steps.{cases}
 use Rattle.limits.specs.Limits.{most}
 use Rattle.bytestring.proofs.Equal.{equal-cases}
-use Rattle.bytestring.proofs.Tools.{All, all-append}
+use Rattle.bytestring.proofs.Tools.{All, all-append, part-taken}
 use Rattle.key.specs.Key.{less, order}
 use Rattle.key.specs.declared.Order.{Order}
 use Rattle.key.specs.declared.Order.the-variants.{Less, Equal, Greater}
@@ -31,13 +30,6 @@ use Rattle.choice.specs.declared.choose.Chosen.the-variants.{Count, TooM
 use Rattle.choice.proofs.Weaving.{combined-none, combined-first, combined-second, combined-both, weave-whole}
 use Rattle.choice.proofs.Sifting.{sift-end, sift-few}
 use Rattle.choice.proofs.Choosing.{all-first, first-at, all-drop, records-past, records-cons, records-snoc, records-slice}
-
--- a part of a list
-pub part-is : {A : Type 0} (n i : ℕ) (l : List A) → take (n - i) (drop i l) ≡ drop i (take n l)
-part-is n zero l = rw sub-zero
-part-is zero (suc i) l = let e : 0 - suc i ≡ 0 = omega arith in rw e
-part-is (suc n) (suc i) [] = take-nil (suc n - suc i)
-part-is (suc n) (suc i) (w ∷ l) = rw suc-sub-suc (part-is n i l)
 
 -- ---- two words for records under one key
 -- the word is one of the two
@@ -174,10 +166,10 @@ module _ {s u first : List ℕ} {n : ℕ} {second : List ℕ} {m : ℕ} (p : Pol
 module _ {s u words : List ℕ} {n : ℕ} (r : Row s u words n) where
   part-stands : (i c : ℕ) → c ≤ n → All (Stands s u) (take (c - i) (drop i words))
   part-stands i c h =
-      rw (part-is c i words) (all-drop (Stands s u) i (take c words) (all-first (Stands s u) words c (omega (arith, r .room)) (λ j g. r .stands j (omega arith))))
+      rw (part-taken c i words) (all-drop (Stands s u) i (take c words) (all-first (Stands s u) words c (omega (arith, r .room)) (λ j g. r .stands j (omega arith))))
 
   part-records : (i : ℕ) → map (recordOfWord s u) (take (n - i) (drop i words)) ≡ drop i (recordsOf s u words n)
-  part-records i = rw (part-is n i words) (records-slice s u words n i)
+  part-records i = rw (part-taken n i words) (records-slice s u words n i)
 
   -- the second row is used up
   rest-records : (p : Policy) (i : ℕ) → map (recordOfWord s u) (take (restEnd p i n - i) (drop i words)) ≡ combined (ruleOf p) (drop i (recordsOf s u words n)) []

@@ -13,7 +13,7 @@ use Rattle.key.proofs.Laws.{less-connected, less-asymmetric, less-same}
 use Rattle.tree.specs.Record.{Record}
 use Rattle.promises.specs.Map.{find, insert, put, greater, join, remove, merge}
 use Rattle.row.specs.Row.{nothing}
-use Rattle.row.specs.Search.{keyAt, countBelow, countUpTo}
+use Rattle.row.specs.Search.{keyAt, countFront, countBelow, countUpTo}
 use Rattle.choice.specs.Choice.{Rule, combineBefore, combined, weaving, choiceOf, weave}
 use Rattle.promises.proofs.MapLaws.{Before, Above, Sorted, above-before, insert-before, insert-here, insert-later, find-here, find-later, remove-here, remove-later}
 
@@ -116,7 +116,7 @@ module _ (choose : List ℕ → List ℕ → List ℕ) (x : Record) where
   -- where no record has its key, it is inserted
   pub weave-absent : (rs : List Record) (p : ℕ) → p ≡ countBelow (x .key) rs → p ≡ countUpTo (x .key) rs
       → weave choose rs (x ∷ []) ≡ take p rs ++ (x ∷ drop p rs)
-  unfolding countBelow countUpTo
+  unfolding countFront
   weave-absent [] zero = λ e f. combined-none (weaving choose) (x ∷ [])
   weave-absent [] (suc p) = λ e f. absurd (omega arith)
   weave-absent (r ∷ m) zero =

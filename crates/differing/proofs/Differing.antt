@@ -11,12 +11,11 @@ use borrow.Author.Tests.{le-leb}
 use borrow.Table.Steps.{cases}
 use Rattle.limits.specs.Limits.{longest, most}
 use Rattle.bytestring.proofs.Tools.{All}
-use Rattle.bytestring.specs.Bytes.{zeros}
 use Rattle.answer.specs.declared.Refusal.{Refusal}
 use Rattle.answer.specs.declared.Refusal.the-variants.{NoRoom}
+use Rattle.answer.specs.Inner.{withSecond}
 use Rattle.answer.specs.declared.Answer.{Answer}
-use Rattle.answer.specs.declared.Differed.{Differed}
-use Rattle.answer.specs.declared.Differed.the-variants.{Refused}
+use Rattle.answer.specs.declared.AnswerOfTwo.{AnswerOfTwo}
 use Rattle.page.specs.Page.{pageBytes}
 use Rattle.tree.specs.Tree.{page, Gap, empty, under, Entries, end, entry}
 use Rattle.tree.specs.Record.{Record, Spelt, records}
@@ -33,15 +32,16 @@ use Rattle.opened.specs.declared.pass.Opening.{Opening}
 use Rattle.opened.proofs.Picks.{pick-map}
 use Rattle.opened.proofs.OpenFlags.{opened-picks}
 use Rattle.promises.specs.Outcome.{sizes}
-use Rattle.promises.specs.Difference.{Difference, stopped, found, differenceRecords, settleDifference, differenceVerdicts, differenceOutcome, differenceAnswer, differenceOutput}
+use Rattle.promises.specs.Counted.{CountedOutcome, stopped, counted, settleCounted, countedAnswer, countedOutput}
+use Rattle.promises.specs.Difference.{differenceRecords, differenceVerdicts, differenceOutcome}
 use Rattle.choice.specs.Choice.{siftedOf, RowOf}
 use Rattle.promises.proofs.MapLaws.{Sorted}
 use Rattle.promises.proofs.Parts.{sorted-part}
 use Rattle.promises.proofs.OpenedLaws.{descent, descentUnder, descentFrom, opened-descent, openedRecords, opened-part}
+use Rattle.promises.proofs.CountedLaws.{CountedSays}
 use Rattle.promises.proofs.DifferenceLaws.{difference-opened}
 use Rattle.choice.proofs.Choosing.{all-first, first-at}
 use Rattle.choice.proofs.Sifting.{sift-lacking}
-use Rattle.differing.specs.Differing.{withOpened}
 use Rattle.reading.proofs.Verdicts.{Accepting, t, sorted, short, row-first, records-first, row-second, records-second, accepted-few}
 
 -- ---- no more pages are opened than the table has bytes
@@ -126,21 +126,18 @@ module _ (s : List ℕ) {u other : List ℕ} {m : ℕ} (b : Accepting u other m)
         ap (map (recordOfWord s u)) (o .staged) ∙ sym (pick-map (recordOfWord s u) bs words) ∙ rw words-records (sym (opened-picks first (t b)))
 
 -- ---- the answer and the output, by whether the table fits
-abbrev pub Says : Difference → ℕ → Differed → List ℕ → Type 0
-Says o room answer out = (answer ≡ differenceAnswer o) × (out ≡ differenceOutput o room)
-
 module _ (rs : List Record) (few : length rs ≤ most) (room count : ℕ) where
-  abbrev settled : Difference
-  settled = settleDifference (due (sizes rs room)) rs count
+  abbrev settled : CountedOutcome
+  settled = settleCounted (due (sizes rs room)) rs count
 
-  settled-is : settled ≡ cond (fitsOutput (tableOf rs) room) (found (tableOf rs) count) (stopped NoRoom)
-  unfolding settleDifference due sizes fitsOutput
+  settled-is : settled ≡ cond (fitsOutput (tableOf rs) room) (counted (tableOf rs) count) (stopped NoRoom)
+  unfolding settleCounted due sizes fitsOutput
   settled-is =
       let b : Bool = leb (length (tableOf rs)) room && leb (length (tableOf rs)) longest in
       rw (le-leb (length rs) most few) (cases b (λ e. rw e) (λ e. rw e))
 
-  settled-says : Says settled room (withOpened (tableAnswer (tableOf rs) room) count) (tableOutput (tableOf rs) room)
-  unfolding tableAnswer tableOutput differenceAnswer differenceOutput
+  settled-says : CountedSays settled room (withSecond (tableAnswer (tableOf rs) room) count) (tableOutput (tableOf rs) room)
+  unfolding tableAnswer tableOutput countedAnswer countedOutput
   settled-says = rw settled-is (cases (fitsOutput (tableOf rs) room) (λ h. rw h (refl, refl)) (λ h. rw h (refl, refl)))
 
 -- ---- two registers that are accepted
@@ -202,19 +199,14 @@ module _ {s u index other : List ℕ} {n m : ℕ} (a : Accepting s index n) (b :
       unfolding differenceOutcome differenceVerdicts
       outcome = rw (a .given .judged, b .given .judged, staged .opened)
 
-      pub difference-says : {answer : Answer} {out : List ℕ} {d : Differed}
+      pub difference-says : {answer : Answer} {out : List ℕ} {d : AnswerOfTwo}
           → (answer ≡ tableAnswer (tableOf (recordsOf s u row′ k)) room) × (out ≡ tableOutput (tableOf (recordsOf s u row′ k)) room)
-          → d ≡ withOpened answer (r .opened) → Says (differenceOutcome s u room) room d out
+          → d ≡ withSecond answer (r .opened) → CountedSays (differenceOutcome s u room) room d out
       difference-says says e =
           let settles = settled-says (differenceRecords (t a) (t b)) few room (r .opened) in
           (e ∙ rw (says .0, row-records, outcome) (settles .0), says .1 ∙ rw (row-records, outcome) (settles .1))
 
 -- ---- a register that is refused
-pub refuses : {o : Difference} {q : Refusal} (room : ℕ) (answer : Differed) (out : List ℕ) → o ≡ stopped q → (answer ≡ Refused q) × (out ≡ zeros room)
-    → Says o room answer out
-unfolding differenceAnswer differenceOutput
-refuses room answer out e says = (says .0 ∙ rw e, says .1 ∙ rw e)
-
 module _ (s u : List ℕ) (room : ℕ) {q : Refusal} where
   pub first-refused : judge s ≡ refused q → differenceOutcome s u room ≡ stopped q
   unfolding differenceOutcome differenceVerdicts

@@ -1,6 +1,6 @@
 // The difference of two registers that are accepted.
-use answer::Answer;
-use answer::Differed;
+use answer::AnswerOfTwo;
+use answer::with_second;
 use choice::choose::leave_held;
 use opened::pass::open_pages;
 use writer::write_table;
@@ -8,18 +8,8 @@ ghost use mathlib.Core.Path.{_≡_};
 ghost use Prim.Native.Nat.{_≤_};
 ghost use lib.ListN.{length};
 ghost use Rattle.index.specs.Accepted.{AcceptedIndex, ChainRow};
-ghost use Rattle.promises.specs.Difference.{differenceOutcome, differenceAnswer, differenceOutput};
-ghost use Rattle.differing.specs.Differing.{withOpened};
-
-// The answer of a table, with the number of opened pages beside its length.
-fn with_opened(answer: Answer, opened: u32) -> Differed
-    ensures { λ r. ⌜ r ≡ withOpened answer opened ⌝ }
-{
-    match answer {
-        Answer::Done(length) => Differed::Found(length, opened),
-        Answer::Refused(refusal) => Differed::Refused(refusal),
-    }
-}
+ghost use Rattle.promises.specs.Counted.{countedAnswer, countedOutput};
+ghost use Rattle.promises.specs.Difference.{differenceOutcome};
 
 // The records in opened pages of the second register are staged, those that the first holds are left out, and the others are written. The
 // chains and the indexes are those of the two registers; the second's index has done its work when all is staged, and takes the row of what is
@@ -37,10 +27,10 @@ pub fn differ(
     m: usize,
     staged: &mut [u64],
     out: &mut [u8],
-) -> Differed
+) -> AnswerOfTwo
     requires { ⌜ AcceptedIndex (now first) (now index) n × AcceptedIndex (now second) (now other) m × ChainRow (now first) (now «first_chains») «first_count» × ChainRow (now second) (now «second_chains») «second_count» × (m ≤ length (now staged)) ⌝ }
-    ensures answer { λ r. ⌜ r ≡ differenceAnswer (differenceOutcome (now (first .entry)) (now (second .entry)) (length (now (out .entry)))) ⌝ }
-    ensures output { λ _. ⌜ now (out .exit) ≡ differenceOutput (differenceOutcome (now (first .entry)) (now (second .entry)) (length (now (out .entry)))) (length (now (out .entry))) ⌝ }
+    ensures answer { λ r. ⌜ r ≡ countedAnswer (differenceOutcome (now (first .entry)) (now (second .entry)) (length (now (out .entry)))) ⌝ }
+    ensures output { λ _. ⌜ now (out .exit) ≡ countedOutput (differenceOutcome (now (first .entry)) (now (second .entry)) (length (now (out .entry)))) (length (now (out .entry))) ⌝ }
 {
     let opening = open_pages(
         first,
@@ -66,5 +56,5 @@ pub fn differ(
         count,
         out,
     );
-    with_opened(answer, opened)
+    with_second(answer, opened)
 }

@@ -1,26 +1,15 @@
 // The call, with rows that are lent: for each register one with a word for each record and one with two words for each chain of its pages.
 use crate::differ::differ;
-use answer::Differed;
-use answer::Refusal;
-use bytestring::clear;
+use answer::AnswerOfTwo;
 use judge::Register;
 use judge::judge;
+use writer::refusal::refuse_two;
 ghost use mathlib.Core.Path.{_≡_};
 ghost use lib.ListN.{length};
-ghost use Rattle.bytestring.specs.Bytes.{zeros};
-ghost use Rattle.answer.specs.declared.Differed.the-variants.{Refused};
 ghost use Rattle.index.specs.Accepted.{AcceptedIndex, ChainRow};
-ghost use Rattle.promises.specs.Difference.{differenceOutcome, differenceAnswer, differenceOutput};
+ghost use Rattle.promises.specs.Counted.{countedAnswer, countedOutput};
+ghost use Rattle.promises.specs.Difference.{differenceOutcome};
 ghost use Rattle.judge.specs.Verdict.{RoomFor};
-
-// A refusal: its number is answered, and the output is zero.
-fn refuse_difference(out: &mut [u8], refusal: Refusal) -> Differed
-    ensures answer { λ r. ⌜ r ≡ Refused refusal ⌝ }
-    ensures output { λ _. ⌜ now (out .exit) ≡ zeros (length (now (out .entry))) ⌝ }
-{
-    clear(out);
-    Differed::Refused(refusal)
-}
 
 // The difference of two registers. The records that may be in it are staged in a row of their own.
 pub fn difference_with_rows(
@@ -32,10 +21,10 @@ pub fn difference_with_rows(
     other_chains: &mut [u64],
     staged: &mut [u64],
     out: &mut [u8],
-) -> Differed
+) -> AnswerOfTwo
     requires { ⌜ RoomFor (now first) 1 (length (now index)) × RoomFor (now first) 2 (length (now chains)) × RoomFor (now second) 1 (length (now others)) × RoomFor (now second) 2 (length (now «other_chains»)) × RoomFor (now second) 1 (length (now staged)) ⌝ }
-    ensures answer { λ r. ⌜ r ≡ differenceAnswer (differenceOutcome (now (first .entry)) (now (second .entry)) (length (now (out .entry)))) ⌝ }
-    ensures output { λ _. ⌜ now (out .exit) ≡ differenceOutput (differenceOutcome (now (first .entry)) (now (second .entry)) (length (now (out .entry)))) (length (now (out .entry))) ⌝ }
+    ensures answer { λ r. ⌜ r ≡ countedAnswer (differenceOutcome (now (first .entry)) (now (second .entry)) (length (now (out .entry)))) ⌝ }
+    ensures output { λ _. ⌜ now (out .exit) ≡ countedOutput (differenceOutcome (now (first .entry)) (now (second .entry)) (length (now (out .entry)))) (length (now (out .entry))) ⌝ }
 {
     match judge(first, index, chains) {
         Register::Accepted(n, first_count) => difference_second(
@@ -50,7 +39,7 @@ pub fn difference_with_rows(
             staged,
             out,
         ),
-        Register::Refused(refusal) => refuse_difference(out, refusal),
+        Register::Refused(refusal) => refuse_two(out, refusal),
     }
 }
 
@@ -66,10 +55,10 @@ fn difference_second(
     other_chains: &mut [u64],
     staged: &mut [u64],
     out: &mut [u8],
-) -> Differed
+) -> AnswerOfTwo
     requires { ⌜ AcceptedIndex (now first) (now index) n × ChainRow (now first) (now chains) «first_count» × RoomFor (now second) 1 (length (now others)) × RoomFor (now second) 2 (length (now «other_chains»)) × RoomFor (now second) 1 (length (now staged)) ⌝ }
-    ensures answer { λ r. ⌜ r ≡ differenceAnswer (differenceOutcome (now (first .entry)) (now (second .entry)) (length (now (out .entry)))) ⌝ }
-    ensures output { λ _. ⌜ now (out .exit) ≡ differenceOutput (differenceOutcome (now (first .entry)) (now (second .entry)) (length (now (out .entry)))) (length (now (out .entry))) ⌝ }
+    ensures answer { λ r. ⌜ r ≡ countedAnswer (differenceOutcome (now (first .entry)) (now (second .entry)) (length (now (out .entry)))) ⌝ }
+    ensures output { λ _. ⌜ now (out .exit) ≡ countedOutput (differenceOutcome (now (first .entry)) (now (second .entry)) (length (now (out .entry)))) (length (now (out .entry))) ⌝ }
 {
     match judge(second, others, other_chains) {
         Register::Accepted(m, second_count) => differ(
@@ -86,6 +75,6 @@ fn difference_second(
             staged,
             out,
         ),
-        Register::Refused(refusal) => refuse_difference(out, refusal),
+        Register::Refused(refusal) => refuse_two(out, refusal),
     }
 }

@@ -4,7 +4,7 @@ use answer::Answer;
 use judge::Register;
 use judge::judge;
 use row_words::to_second;
-use writing::refusal::refuse;
+use writer::refusal::refuse;
 ghost use mathlib.Core.Path.{_≡_};
 ghost use lib.ListN.{length};
 ghost use Rattle.index.specs.Accepted.{AcceptedIndex, ChainRow};

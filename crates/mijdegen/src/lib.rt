@@ -2,12 +2,14 @@
 use value::Digest;
 use value::Value;
 ghost use mathlib.Core.Path.{_≡_};
-ghost use Rattle.answer.specs.Answer.{encoded, encodedDifference};
+ghost use Rattle.answer.specs.Answer.{encoded, encodedOfTwo};
 ghost use Rattle.sha256.specs.Digest.{digestAnswer, digestOutput};
 ghost use Rattle.key.specs.Key.{slashAnswer};
 ghost use Rattle.key.specs.Layer.{layerAnswer};
 ghost use lib.ListN.{length};
-ghost use Rattle.promises.specs.Difference.{differenceOutcome, differenceAnswer, differenceOutput};
+ghost use Rattle.promises.specs.Counted.{countedAnswer, countedOutput};
+ghost use Rattle.promises.specs.Difference.{differenceOutcome};
+ghost use Rattle.collections.specs.Screen.{screenOutcome};
 ghost use Rattle.promises.specs.Range.{atOrAfterOutcome, beforeOutcome, runOutcome};
 ghost use Rattle.promises.specs.Outcome.{checkAnswer, lookupAnswer, listOutcome, listAnswer, listKey, listValue, putOutcome, joinOutcome, removeOutcome, mergeOutcome, answerOf, outputOf};
 
@@ -126,8 +128,16 @@ pub extern "C" fn mijdegen_merge(first: &[u8], second: &[u8], out: &mut [u8]) ->
 
 #[no_mangle]
 pub extern "C" fn mijdegen_difference(first: &[u8], second: &[u8], out: &mut [u8]) -> u64
-    ensures answer { λ r. ⌜ r ≡ encodedDifference (differenceAnswer (differenceOutcome (now (first .entry)) (now (second .entry)) (length (now (out .entry))))) ⌝ }
-    ensures output { λ _. ⌜ now (out .exit) ≡ differenceOutput (differenceOutcome (now (first .entry)) (now (second .entry)) (length (now (out .entry)))) (length (now (out .entry))) ⌝ }
+    ensures answer { λ r. ⌜ r ≡ encodedOfTwo (countedAnswer (differenceOutcome (now (first .entry)) (now (second .entry)) (length (now (out .entry))))) ⌝ }
+    ensures output { λ _. ⌜ now (out .exit) ≡ countedOutput (differenceOutcome (now (first .entry)) (now (second .entry)) (length (now (out .entry)))) (length (now (out .entry))) ⌝ }
 {
-    answer::encode_difference(differing::difference(first, second, out))
+    answer::encode_two(differing::difference(first, second, out))
+}
+
+#[no_mangle]
+pub extern "C" fn mijdegen_screen(lent: &[u8], collection: &[u8], n: u64, out: &mut [u8]) -> u64
+    ensures answer { λ r. ⌜ r ≡ encodedOfTwo (countedAnswer (screenOutcome (now (lent .entry)) (now (collection .entry)) n (length (now (out .entry))))) ⌝ }
+    ensures output { λ _. ⌜ now (out .exit) ≡ countedOutput (screenOutcome (now (lent .entry)) (now (collection .entry)) n (length (now (out .entry)))) (length (now (out .entry))) ⌝ }
+{
+    answer::encode_two(screen::screen(lent, collection, n, out))
 }

@@ -1,13 +1,12 @@
 -- The difference: what it writes is a part of the second's records in their order, and where no two unequal pages share a digest it is all
 -- that the first lacks.
-use Prim.Native.Nat.{ℕ, zero, suc, _≤_}
+use Prim.Native.Nat.{ℕ, zero, suc}
 use mathlib.Core.Path.{_≡_, refl, sym, ap, ap₂, _∙_}
 use mathlib.Core.Bool.{Bool, true, false, _||_, or-true, false≢true}
 use mathlib.Core.Logic.{inl, inr}
 use mathlib.Core.Option.{Option, none, some}
 use mathlib.Core.List.{List, [], _∷_, _++_, head-eq-of-cons-eq, tail-eq-of-cons-eq, Sublistᴰ, Sublistᴰ·slnil, Sublistᴰ·cons, Sublistᴰ·cons-cons, Sublistᴰ·trans}
 use native.Mathlib.Omega.{arith}
-use lib.ListN.{length, length-append, length-replicate}
 use borrow.Table.Steps.{cases}
 use Rattle.limits.specs.Limits.{deepest}
 use Rattle.bytestring.proofs.Equal.{equal-true, equal-refl}
@@ -24,7 +23,7 @@ use Rattle.tree.specs.Judge.{digestsRight, digestsRightUnder, digestsRightFrom}
 use Rattle.tree.proofs.Laws.{AllUnder, AllFrom, Good, page-injective, Accepted}
 use Rattle.promises.specs.Map.{find, onlyInSecond}
 use Rattle.promises.specs.Pages.{pagesOf, pagesOfGap, pagesOfEntries, known}
-use Rattle.promises.specs.Difference.{isValueThere, holds, lacking, Difference, stopped, found, differenceRecords, differenceOutput}
+use Rattle.promises.specs.Difference.{isValueThere, holds, lacking, differenceRecords}
 use Rattle.promises.specs.Promises.{Among, NoSharedDigest}
 use Rattle.promises.proofs.MapLaws.{Above, above-before, Sorted, rising-sorted, find-nil, find-before, find-here, find-later, find-above, Proper}
 use Rattle.promises.proofs.Parts.{all-part, proper-part}
@@ -276,9 +275,3 @@ pub difference-proper : (t u : SpeltTree) → Proper (records u) → Proper (dif
 difference-proper t u p =
     rw (difference-opened t u (p .order))
     (proper-part (Sublistᴰ·trans (lacking-part (records t) (openedRecords (pagesOf t) u)) (opened-part (pagesOf t) u)) p)
-
-pub difference-output-length : (d : Difference) (room : ℕ) → ((t : List ℕ) (count : ℕ) → d ≡ found t count → length t ≤ room)
-    → length (differenceOutput d room) ≡ room
-unfolding differenceOutput
-difference-output-length (stopped r) room f = length-replicate room 0
-difference-output-length (found t count) room f = simp (length-append, length-replicate) (omega (arith, f t count refl))

@@ -3,6 +3,7 @@ pub mod MergeLaws
 pub mod Parts
 pub mod Steps
 pub mod OpenedLaws
+pub mod CountedLaws
 pub mod DifferenceLaws
 pub mod Orders
 pub mod Promises

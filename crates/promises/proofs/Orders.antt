@@ -13,7 +13,7 @@ use borrow.Table.Steps.{cases}
 use Rattle.limits.specs.Limits.{longest, most}
 use Rattle.bytestring.proofs.Tools.{and-both}
 use Rattle.bytestring.specs.Bytes.{ByteString, equal}
-use Rattle.answer.specs.Answer.{numberOf, doneWith, said, saidOfDifference}
+use Rattle.answer.specs.Answer.{numberOf, doneWith, said}
 use Rattle.answer.specs.declared.Refusal.{Refusal}
 use Rattle.answer.specs.declared.Refusal.the-variants.{TooManyRecords, UnlawfulKey, ValueLength, KeyAbsent, NoRoom}
 use Rattle.key.specs.Key.{lawful, less}
@@ -28,9 +28,10 @@ use Rattle.tree.proofs.Laws.{LawfulKey, RightValue, fitting, fitting-fits, reco
 use Rattle.promises.specs.Map.{find, isThere, put, join, remove, merge, greaterFound, nth}
 use Rattle.promises.specs.Pages.{pagesOf, openedPages, inPages}
 use Rattle.promises.specs.Outcome.{checkVerdict, checkAnswer, placeOf, answerPlace, lookupVerdict, lookupAnswer, Listed, unlisted, pastTheEnd, listed, listRecord, listVerdict, listOutcome, listAnswer, listKey, listValue, Plan, roomTest, sizes, settle, carryOut, putPlan, joinPlan, removePlan, mergePlan, onFirst, putOutcome, joinOutcome, removeOutcome, mergeOutcome, answerOf, outputOf}
-use Rattle.promises.specs.Difference.{differenceRecords, settleDifference, differenceVerdicts, differenceOutcome, differenceAnswer, differenceOutput}
+use Rattle.promises.specs.Counted.{settleCounted, countedAnswer, countedOutput}
+use Rattle.promises.specs.Difference.{differenceRecords, differenceVerdicts, differenceOutcome}
 use Rattle.promises.specs.Register.{RegisterOf}
-use Rattle.promises.specs.Reply.{Reply, recordReply, writingReply, differenceReply}
+use Rattle.promises.specs.Reply.{Reply, recordReply, writingReply, countedReply, differenceReply}
 use Rattle.promises.specs.Order.{AllZero, Refuses, Judged, Check, filled, Measured, ResultFinds, GivesRecord}
 use Rattle.promises.specs.Promises.{SlashReplies, CheckReplies, LookupReplies, ListReplies, PutReplies, JoinReplies, RemoveReplies, MergeReplies, DifferenceReplies, DifferenceIsExact}
 use Rattle.promises.proofs.MapLaws.{sorted-rising, nth-past, find-merge, Proper, fits-proper, proper-put, proper-join, proper-remove, proper-merge}
@@ -237,44 +238,48 @@ merge-replies s u room =
       };
     }
 
--- ---- the difference
+-- ---- a call that counts
 module _ (rs : List Record) (count room : ℕ) where
-  abbrev settledDifference : Option Refusal → Reply
-  settledDifference o =
-      let d = settleDifference o rs count in
-      record { answer = saidOfDifference (differenceAnswer d); outputs = record { room = room; bytes = differenceOutput d room } ∷ [] }
+  -- the reply by the first number that is due
+  abbrev pub countedBy : Option Refusal → Reply
+  countedBy o = countedReply (settleCounted o rs count) room
 
-  difference-refuses : (r : Refusal) → Refuses (settledDifference (some r)) (numberOf r)
-  unfolding settleDifference differenceAnswer differenceOutput
-  difference-refuses r = record { answer = refl; outputs = (refl, tt) }
+  pub counted-refuses : (r : Refusal) → Refuses (countedBy (some r)) (numberOf r)
+  unfolding settleCounted countedAnswer countedOutput
+  counted-refuses r = record { answer = refl; outputs = (refl, tt) }
 
-  difference-last : (whole : Reply) (finds : List ℕ → Option (List ℕ)) → Proper rs → ((key : List ℕ) → find key rs ≡ finds key)
-      → whole ≡ settledDifference (due (sizes rs room)) → ResultFinds whole room (count ∷ []) finds
-  unfolding settleDifference differenceAnswer differenceOutput
-  difference-last whole finds p f e = last whole settledDifference difference-refuses rs room (count ∷ []) finds p f refl refl e
+  pub counted-writes : (countedBy none .answer ≡ doneWith (length (tableOf rs) ∷ count ∷ [])) × (countedBy none .outputs ≡ filled room (tableOf rs) ∷ [])
+  unfolding settleCounted countedAnswer countedOutput
+  counted-writes = (refl, refl)
 
+  counted-last : (whole : Reply) (finds : List ℕ → Option (List ℕ)) → Proper rs → ((key : List ℕ) → find key rs ≡ finds key)
+      → whole ≡ countedBy (due (sizes rs room)) → ResultFinds whole room (count ∷ []) finds
+  counted-last whole finds p f e =
+      last whole countedBy counted-refuses rs room (count ∷ []) finds p f (counted-writes .0) (counted-writes .1) e
+
+-- ---- the difference
 module _ (s u : ByteString) (room : ℕ) where
   abbrev reply : Reply
   reply = differenceReply (s .list) (u .list) room
 
   first-refused : (r : Refusal) → judge (s .list) ≡ refused r → Refuses reply (numberOf r)
-  unfolding differenceOutcome differenceVerdicts differenceAnswer differenceOutput
+  unfolding differenceOutcome differenceVerdicts countedAnswer countedOutput
   first-refused r j = record { answer = rw j; outputs = (rw j, tt) }
 
   module _ (t : SpeltTree) (j : judge (s .list) ≡ accepted t) where
     second-refused : (r : Refusal) → judge (u .list) ≡ refused r → Refuses reply (numberOf r)
-    unfolding differenceOutcome differenceVerdicts differenceAnswer differenceOutput
+    unfolding differenceOutcome differenceVerdicts countedAnswer countedOutput
     second-refused r k = record { answer = rw (j, k); outputs = (rw (j, k), tt) }
 
     module _ (w : SpeltTree) (k : judge (u .list) ≡ accepted w) where
-      both-accepted : reply ≡ settledDifference (differenceRecords t w) (length (openedPages (pagesOf t) w)) room (due (sizes (differenceRecords t w) room))
+      both-accepted : reply ≡ countedBy (differenceRecords t w) (length (openedPages (pagesOf t) w)) room (due (sizes (differenceRecords t w) room))
       unfolding differenceOutcome differenceVerdicts
       both-accepted = rw (j, k)
 
       pub difference-result : (finds : List ℕ → Option (List ℕ)) → ((key : List ℕ) → find key (differenceRecords t w) ≡ finds key)
           → ResultFinds reply room (length (openedPages (pagesOf t) w) ∷ []) finds
       difference-result finds f =
-          difference-last (differenceRecords t w) (length (openedPages (pagesOf t) w)) room reply finds
+          counted-last (differenceRecords t w) (length (openedPages (pagesOf t) w)) room reply finds
           (difference-proper t w (accepted-proper u w k)) f both-accepted
 
 pub difference-replies : DifferenceReplies

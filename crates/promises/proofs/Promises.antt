@@ -12,7 +12,7 @@ use Rattle.limits.specs.Limits.{longest, most}
 use Rattle.bytestring.proofs.Tools.{All, all-split, and-both}
 use Rattle.bytestring.specs.Bytes.{Bytes, ByteString}
 use Rattle.answer.specs.Answer.{Said, said}
-use Rattle.answer.specs.Inner.{LengthFits}
+use Rattle.answer.specs.Inner.{FirstFits}
 use Rattle.answer.specs.declared.Refusal.{Refusal}
 use Rattle.answer.specs.declared.Refusal.the-variants.{UnlawfulKey, ValueLength}
 use Rattle.answer.specs.declared.Answer.the-variants.{Done}
@@ -29,7 +29,8 @@ use Rattle.tree.proofs.Laws.{due-none, none-due, LawfulKey, RightValue, fitting
 use Rattle.promises.specs.Map.{put, merge}
 use Rattle.promises.specs.Pages.{pagesOf, openedPages}
 use Rattle.promises.specs.Outcome.{Outcome, stopped, wrote, Plan, sizes, settle, carryOut, putPlan, mergePlan, onFirst, putOutcome, joinOutcome, removeOutcome, mergeOutcome, answerOf, outputOf}
-use Rattle.promises.specs.Difference.{differenceRecords, settleDifference, differenceVerdicts, differenceOutcome, differenceAnswer}
+use Rattle.promises.specs.Counted.{settleCounted, countedAnswer}
+use Rattle.promises.specs.Difference.{differenceRecords, differenceVerdicts, differenceOutcome}
 use Rattle.promises.specs.Plain.{Call, putCall, removeCall, joinCall, mergeCall, planOf, roomOf, mapOutcome, nextSet, mapAnswers, mapSet, callOutcome, callAnswer, callOutput, nextHeld, libraryAnswers, held, emptyRegister, putsOf}
 use Rattle.promises.specs.Register.{RegisterOf}
 use Rattle.promises.specs.Promises.{ValuesAreBytes, ReadsWhatItWrites, ReadsNothingElse, AnswersAsTheMap, HoldsItsRegister, AllDone, PutsReachEverySet, OneRegister, SameSetSameBytes, MergeCommutes, MergeAssociates, MergeIdempotent, DifferenceComesApart}
@@ -273,25 +274,25 @@ merge-idempotent a n aa h =
     let (m, p) = first-table a (a .list) n aa h in
     merged-table (a .list) (a .list) m m p p n aa h .0 ∙ ap tableOf (set-idempotent m (fits-sorted m (p .1))) ∙ sym (p .0)
 
--- ---- the difference's answer as one number
+-- ---- two values as one number
 -- the length of a table that was written is below 2^24
-settled-short : (o : Option Refusal) (rs : List Record) (count : ℕ) → (o ≡ none → length (tableOf rs) ≤ longest)
-    → LengthFits (differenceAnswer (settleDifference o rs count))
-unfolding settleDifference differenceAnswer
+pub settled-short : (o : Option Refusal) (rs : List Record) (count : ℕ) → (o ≡ none → length (tableOf rs) ≤ longest)
+    → FirstFits (countedAnswer (settleCounted o rs count))
+unfolding settleCounted countedAnswer
 settled-short none rs count f = omega (arith, f refl)
 settled-short (some r) rs count f = tt
 
-verdicts-short : (v w : Verdict) (room : ℕ) → LengthFits (differenceAnswer (differenceVerdicts v w room))
-unfolding differenceVerdicts differenceAnswer
+verdicts-short : (v w : Verdict) (room : ℕ) → FirstFits (countedAnswer (differenceVerdicts v w room))
+unfolding differenceVerdicts countedAnswer
 verdicts-short (refused r) w room = tt
 verdicts-short (accepted t) (refused r) room = tt
 verdicts-short (accepted t) (accepted u) room =
     let rs : List Record = differenceRecords t u in
     settled-short (due (sizes rs room)) rs (length (openedPages (pagesOf t) u)) (λ e. sized rs room (due-none (sizes rs room) e) .size)
 
-pub difference-short : (s u : List ℕ) (room : ℕ) → LengthFits (differenceAnswer (differenceOutcome s u room))
+pub difference-short : (s u : List ℕ) (room : ℕ) → FirstFits (countedAnswer (differenceOutcome s u room))
 unfolding differenceOutcome
 difference-short s u room = verdicts-short (judge s) (judge u) room
 
 pub difference-comes-apart : DifferenceComesApart
-difference-comes-apart s u room = two-come-apart (differenceAnswer (differenceOutcome (s .list) (u .list) room)) (difference-short (s .list) (u .list) room)
+difference-comes-apart s u room = two-come-apart (countedAnswer (differenceOutcome (s .list) (u .list) room)) (difference-short (s .list) (u .list) room)

@@ -1,11 +1,10 @@
 -- Parts between two keys: what the definitions give of a sorted set, and the replies of the calls.
-use Prim.Native.Nat.{ℕ, _≤_}
+use Prim.Native.Nat.{ℕ}
 use mathlib.Core.Path.{_≡_, refl, sym, ap, _∙_}
-use mathlib.Core.Bool.{Bool, true, false, cond, not, _||_, false≢true}
+use mathlib.Core.Bool.{Bool, true, false, cond, not, _&&_, _||_, false≢true}
 use mathlib.Core.Option.{Option, none, some, Option·none-ne-some}
-use mathlib.Core.List.{List, [], _∷_, Sublistᴰ, Sublistᴰ·slnil, Sublistᴰ·cons, Sublistᴰ·cons-cons}
+use mathlib.Core.List.{List, [], _∷_}
 use native.Mathlib.Omega.{arith}
-use lib.ListN.{length}
 use borrow.Table.Steps.{cases}
 use Rattle.bytestring.specs.Bytes.{ByteString}
 use Rattle.answer.specs.Answer.{numberOf}
@@ -19,12 +18,12 @@ use Rattle.tree.specs.Judge.{refused, accepted, judge}
 use Rattle.tree.proofs.Laws.{fitting}
 use Rattle.promises.specs.Map.{find}
 use Rattle.promises.specs.Outcome.{Listed, roomTest, answerOf, outputOf}
-use Rattle.promises.specs.Range.{isBefore, isOutside, atOrAfter, orElse, lastBefore, recordsBetween, oneRecord, besideKey, atOrAfterOutcome, beforeOutcome, runTests, runVerdict, runOutcome}
+use Rattle.promises.specs.Range.{isBefore, isBetween, atOrAfter, orElse, lastBefore, recordsBetween, oneRecord, besideKey, atOrAfterOutcome, beforeOutcome, runTests, runVerdict, runOutcome}
 use Rattle.promises.specs.Reply.{recordReply, runReply}
 use Rattle.promises.specs.Order.{Refuses, Judged, Check, FirstFrom, LastBelow, GivesRecord}
 use Rattle.promises.specs.Promises.{AtOrAfterReplies, BeforeReplies, RunReplies}
 use Rattle.promises.proofs.MapLaws.{Before, Above, above-before, Sorted, sorted-rising, find-nil, find-before, find-here, find-later, find-above}
-use Rattle.promises.proofs.Parts.{all-part, proper-part}
+use Rattle.promises.proofs.Parts.{proper-part, whose-part, whose-few, find-whose}
 use Rattle.promises.proofs.Orders.{accepted-fits, accepted-proper, lawful-passes, check, measured, settledReply, settled-refuses, settled-writes, record-refuses, gives-record}
 
 -- ---- the order of keys
@@ -115,44 +114,10 @@ module _ (k : List ℕ) where
       (λ l. rw l (λ e. absurd (Option·none-ne-some r e)))
 
 -- ---- the records between two keys
-module _ (first last : List ℕ) where
-  abbrev outside : List ℕ → Bool
-  outside key = less key first || less last key
-
-  between-part : (rs : List Record) → Sublistᴰ (recordsBetween first last rs) rs
-  unfolding recordsBetween
-  between-part [] = Sublistᴰ·slnil
-  between-part (x ∷ m) =
-      cases (isOutside first last x) (λ e. rw e (Sublistᴰ·cons (between-part m))) (λ e. rw e (Sublistᴰ·cons-cons refl (between-part m)))
-
-  pub between-few : (rs : List Record) → length (recordsBetween first last rs) ≤ length rs
-  unfolding recordsBetween
-  between-few [] = omega arith
-  between-few (x ∷ m) = cases (isOutside first last x) (λ e. rw e (omega (arith, between-few m))) (λ e. rw e (omega (arith, between-few m)))
-
-  either-none : (b : Bool) → _≡_ {A = Option (List ℕ)} (cond b none none) none
-  either-none true = refl
-  either-none false = refl
-
-  find-between : (key : List ℕ) (rs : List Record) → Sorted rs → find key (recordsBetween first last rs) ≡ cond (outside key) none (find key rs)
-  unfolding recordsBetween
-  find-between key [] s = rw find-nil (sym (either-none (outside key)))
-  find-between key (x ∷ m) s =
-      let later = recordsBetween first last m in
-      let above : Above (x .key) later = all-part _ (between-part m) (s .0) in
-      less-connected key (x .key)
-      (λ h. rw (find-before key x m h, either-none (outside key))
-      (cases (isOutside first last x)
-      (λ e. rw e (find-above key later (above-before key (x .key) later h above)))
-      (λ e. rw e (find-before key x later h))))
-      (λ h. rw (h, find-here (x .key) x m refl)
-      (cases (isOutside first last x)
-      (λ e. rw e (find-above (x .key) later above))
-      (λ e. rw e (find-here (x .key) x later refl))))
-      (λ h. rw (find-later key x m h)
-      (cases (isOutside first last x)
-      (λ e. rw e (find-between key m (s .1)))
-      (λ e. rw e (find-later key x later h ∙ find-between key m (s .1)))))
+between-cond : (a b : Bool) (o : Option (List ℕ)) → cond (not a && not b) o none ≡ cond (a || b) none o
+between-cond true b o = refl
+between-cond false true o = refl
+between-cond false false o = refl
 
 -- ---- one record beside a key
 -- `Rest` are the keys on its side of the key, and `Near` says that a record is the nearest there
@@ -232,9 +197,9 @@ run-replies s f l room =
           (λ _ e₂. check whole reply (settled-refuses rs room) FirstAfterLast (not (less last first)) (roomTest rs room ∷ []) (λ h. rw h) (λ h. rw (is-false (less last first) h)) e₂
           (λ _ e₃. record {
             result = rs;
-            inOrder = sorted-rising rs (proper-part (between-part first last (records t)) p .order);
-            found = λ key. find-between first last key (records t) (p .order);
-            measured = measured whole reply (settled-refuses rs room) rs room [] (proper-part (between-part first last (records t)) p)
-                (omega (arith, between-few first last (records t))) (settled-writes rs room .0) (settled-writes rs room .1) e₃;
+            inOrder = sorted-rising rs (proper-part (whose-part (isBetween first last) (records t)) p .order);
+            found = λ key. find-whose (isBetween first last) key (records t) (p .order) ∙ between-cond (less key first) (less last key) (find key (records t));
+            measured = measured whole reply (settled-refuses rs room) rs room [] (proper-part (whose-part (isBetween first last) (records t)) p)
+                (omega (arith, whose-few (isBetween first last) (records t))) (settled-writes rs room .0) (settled-writes rs room .1) e₃;
           })));
     }

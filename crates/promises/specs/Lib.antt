@@ -2,6 +2,7 @@ pub mod Map
 pub mod Pages
 pub mod Outcome
 pub mod Range
+pub mod Counted
 pub mod Difference
 pub mod Register
 pub mod Reply

@@ -63,6 +63,13 @@ onlyInSecond v none = none
 onlyInSecond none (some w) = some w
 onlyInSecond (some v) (some w) = cond (equal v w) none (some w)
 
+-- The records whose keys pass a test.
+unfoldable pub whose : (List ℕ → Bool) → List Record → List Record
+whose test [] = []
+whose test (x ∷ m) =
+    let later : List Record = whose test m in
+    cond (test (x .key)) (x ∷ later) later
+
 -- The n-th record in key order, n from 0.
 unfoldable pub nth : ℕ → List Record → Option Record
 nth n [] = none

@@ -6,7 +6,7 @@ use mathlib.Core.Logic.{_⊎_}
 use mathlib.Core.List.{List, [], _∷_, _++_}
 use lib.ListN.{length}
 use Rattle.bytestring.specs.Bytes.{Bytes, ByteString}
-use Rattle.answer.specs.Answer.{Said, refusedWith, doneWith, encodedDifference, saidOfDifference, takenApartInTwo}
+use Rattle.answer.specs.Answer.{Said, refusedWith, doneWith, encodedOfTwo, saidOfTwo, takenApartInTwo}
 use Rattle.fips180.specs.Hash.{sha256}
 use Rattle.tree.specs.Tree.{pages}
 use Rattle.tree.specs.Record.{Record, records}
@@ -15,7 +15,8 @@ use Rattle.tree.specs.Judge.{accepted, judge, fits}
 use Rattle.promises.specs.Map.{find, onlyInSecond}
 use Rattle.promises.specs.Pages.{pagesOf, known, openedPages, linkedPages}
 use Rattle.promises.specs.Outcome.{wrote, mergeOutcome}
-use Rattle.promises.specs.Difference.{differenceOutcome, differenceAnswer}
+use Rattle.promises.specs.Counted.{countedAnswer}
+use Rattle.promises.specs.Difference.{differenceOutcome}
 use Rattle.promises.specs.Register.{RegisterOf}
 use Rattle.promises.specs.Reply.{slashReply, checkReply, lookupReply, listReply, atOrAfterReply, beforeReply, runReply, putReply, joinReply, removeReply, mergeReply, differenceReply}
 use Rattle.promises.specs.Order.{ResultFinds, SlashOrder, CheckOrder, LookupOrder, ListOrder, AtOrAfterOrder, BeforeOrder, RunOrder, PutOrder, JoinOrder, RemoveOrder, MergeOrder, DifferenceOrder}
@@ -78,8 +79,8 @@ DifferenceReplies =
 abbrev pub DifferenceComesApart : Type 0
 DifferenceComesApart =
     (s u : ByteString) (room : ℕ)
-    → takenApartInTwo (encodedDifference (differenceAnswer (differenceOutcome (s .list) (u .list) room)))
-    ≡ saidOfDifference (differenceAnswer (differenceOutcome (s .list) (u .list) room))
+    → takenApartInTwo (encodedOfTwo (countedAnswer (differenceOutcome (s .list) (u .list) room)))
+    ≡ saidOfTwo (countedAnswer (differenceOutcome (s .list) (u .list) room))
 
 -- Demand 3. For every list of puts, removals, joins and merges from any accepted register: every call answers as the plain map does, and after
 -- the list the register held is, byte for byte, that of the map's set.

@@ -1,6 +1,6 @@
 -- Parts between two keys: one record beside a key, and the records from a first key to a last.
 use Prim.Native.Nat.{ℕ}
-use mathlib.Core.Bool.{Bool, cond, not, _||_}
+use mathlib.Core.Bool.{Bool, cond, not, _&&_}
 use mathlib.Core.Option.{Option, none, some}
 use mathlib.Core.List.{List, [], _∷_}
 use lib.ListN.{length}
@@ -9,14 +9,16 @@ use Rattle.answer.specs.declared.Refusal.the-variants.{UnlawfulKey, KeyAbsent, 
 use Rattle.key.specs.Key.{lawful, less}
 use Rattle.tree.specs.Record.{Record, records}
 use Rattle.tree.specs.Judge.{Test, due, Verdict, refused, accepted, judge}
+use Rattle.promises.specs.Map.{whose}
 use Rattle.promises.specs.Outcome.{Listed, unlisted, listed, Outcome, stopped, roomTest, settle}
 
--- Whether a record stands before a key, and whether it stands outside two keys, which themselves are inside.
+-- Whether a record stands before a key.
 abbrev pub isBefore : List ℕ → Record → Bool
 isBefore k x = less (x .key) k
 
-abbrev pub isOutside : List ℕ → List ℕ → Record → Bool
-isOutside first last x = less (x .key) first || less last (x .key)
+-- Whether a key lies between two others, or is one of them.
+abbrev pub isBetween : List ℕ → List ℕ → List ℕ → Bool
+isBetween first last k = not (less k first) && not (less last k)
 
 -- The first record at or after a key.
 unfoldable pub atOrAfter : List ℕ → List Record → Option Record
@@ -37,11 +39,8 @@ lastBefore k (x ∷ m) =
     cond (isBefore k x) here none
 
 -- The records from a first key up to and including a last.
-unfoldable pub recordsBetween : List ℕ → List ℕ → List Record → List Record
-recordsBetween first last [] = []
-recordsBetween first last (x ∷ m) =
-    let later : List Record = recordsBetween first last m in
-    cond (isOutside first last x) later (x ∷ later)
+abbrev pub recordsBetween : List ℕ → List ℕ → List Record → List Record
+recordsBetween first last rs = whose (isBetween first last) rs
 
 -- ---- at_or_after and before
 -- A single record comes as list gives one; where there is none, the answer is 12.

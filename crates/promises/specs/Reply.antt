@@ -2,11 +2,12 @@
 use Prim.Native.Nat.{ℕ}
 use mathlib.Core.List.{List, [], _∷_}
 use Rattle.value.specs.Value.{valueLength}
-use Rattle.answer.specs.Answer.{Said, said, saidOfDifference}
+use Rattle.answer.specs.Answer.{Said, said, saidOfTwo}
 use Rattle.key.specs.Key.{slashAnswer}
 use Rattle.promises.specs.Outcome.{checkAnswer, lookupAnswer, Listed, listOutcome, listAnswer, listKey, listValue, Outcome, putOutcome, joinOutcome, removeOutcome, mergeOutcome, answerOf, outputOf}
 use Rattle.promises.specs.Range.{atOrAfterOutcome, beforeOutcome, runOutcome}
-use Rattle.promises.specs.Difference.{differenceOutcome, differenceAnswer, differenceOutput}
+use Rattle.promises.specs.Counted.{CountedOutcome, countedAnswer, countedOutput}
+use Rattle.promises.specs.Difference.{differenceOutcome}
 
 -- An output: its length, and the bytes that stand in it after the call.
 pub record Output : Type 0 where
@@ -63,7 +64,9 @@ removeReply s k room = writingReply (removeOutcome s k room) room
 abbrev pub mergeReply : List ℕ → List ℕ → ℕ → Reply
 mergeReply s u room = writingReply (mergeOutcome s u room) room
 
+abbrev pub countedReply : CountedOutcome → ℕ → Reply
+countedReply o room =
+    record { answer = saidOfTwo (countedAnswer o); outputs = record { room = room; bytes = countedOutput o room } ∷ [] }
+
 abbrev pub differenceReply : List ℕ → List ℕ → ℕ → Reply
-differenceReply s u room =
-    let d = differenceOutcome s u room in
-    record { answer = saidOfDifference (differenceAnswer d); outputs = record { room = room; bytes = differenceOutput d room } ∷ [] }
+differenceReply s u room = countedReply (differenceOutcome s u room) room

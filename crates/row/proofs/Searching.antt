@@ -35,7 +35,7 @@ use Rattle.row.proofs.Memories.{no-note}
 use Rattle.row.specs.Search.{keyAt, countBelow, countUpTo, PositionFits, SearchSays, CountSays}
 use Rattle.row.specs.declared.search.Searched.{Searched}
 use Rattle.row.specs.declared.search.Searched.the-variants.{At, Absent}
-use Rattle.row.proofs.Counting.{below-ends, up-to-ends}
+use Rattle.row.proofs.Counting.{front-ends}
 
 -- ---- the keys of a row of records
 rising-rest : (r : Record) (rs : List Record) → rising (r ∷ rs) ≡ true → rising rs ≡ true
@@ -96,8 +96,8 @@ place-absent k (r ∷ rs) (p ∷ ps) (suc low) h b =
 -- where no record has the key
 counts-absent : (k : List ℕ) (rs : List Record) (low : ℕ) → low ≤ length rs → Between k rs low low → (low ≡ countBelow k rs) × (low ≡ countUpTo k rs)
 counts-absent k rs low h b = (
-  below-ends k rs low h (b .below) (λ l. less-asymmetric k (keyAt rs low) (b .above low (omega arith) l)),
-  up-to-ends k rs low h (λ i l. less-asymmetric (keyAt rs i) k (b .below i l)) (b .above low (omega arith)),
+  front-ends _ rs low h (b .below) (λ l. less-asymmetric k (keyAt rs low) (b .above low (omega arith) l)),
+  front-ends _ rs low h (λ i l. rw (less-asymmetric (keyAt rs i) k (b .below i l))) (λ l. rw (b .above low (omega arith) l)),
 )
 
 -- where the record at i has it
@@ -106,15 +106,15 @@ module _ (k : List ℕ) (rs : List Record) (order : rising rs ≡ true) (i : ℕ
   before-there j g = rw (← q) (rising-at rs order j i g h)
 
   below-there : i ≡ countBelow k rs
-  below-there = below-ends k rs i (omega arith) before-there (λ l. less-same (keyAt rs i) k q)
+  below-there = front-ends _ rs i (omega arith) before-there (λ l. less-same (keyAt rs i) k q)
 
   up-to-there : suc i ≡ countUpTo k rs
   up-to-there =
-      up-to-ends k rs (suc i) h
+      front-ends _ rs (suc i) h
       (λ j g. cases (leb i j)
-      (λ e. let same : j ≡ i = omega (arith, leb-true i j e) in rw same (less-same k (keyAt rs i) (sym q)))
-      (λ e. less-asymmetric (keyAt rs j) k (before-there j (leb-false i j e))))
-      (λ l. rw (← q) (rising-at rs order i (suc i) (omega arith) l))
+      (λ e. let same : j ≡ i = omega (arith, leb-true i j e) in rw (same, less-same k (keyAt rs i) (sym q)))
+      (λ e. rw (less-asymmetric (keyAt rs j) k (before-there j (leb-false i j e)))))
+      (λ l. let later : less k (keyAt rs (suc i)) ≡ true = rw (← q) (rising-at rs order i (suc i) (omega arith) l) in rw later)
 
 -- ---- the ways that a turn of the loop goes
 unfoldable pub Narrowed : List ℕ → List ℕ → ℕ → List ℕ → ℕ → ℕ → Type 0

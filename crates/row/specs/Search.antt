@@ -1,7 +1,7 @@
 -- What the search for a key and the counts beside it say: contracts inside the library cite it, and no public contract does.
 use Prim.Native.Nat.{ℕ, suc, _≤_, _<_}
 use mathlib.Core.Path.{_≡_}
-use mathlib.Core.Bool.{cond}
+use mathlib.Core.Bool.{Bool, cond, not}
 use mathlib.Core.Option.{Option, none, some}
 use mathlib.Core.List.{List, [], _∷_}
 use lib.ListN.{length, getD}
@@ -24,19 +24,19 @@ placeFound (Absent position) = none
 abbrev pub keyAt : List Record → ℕ → List ℕ
 keyAt rs i = getD rs i nothing .key
 
--- How many records at the front have a key less than k.
-unfoldable pub countBelow : List ℕ → List Record → ℕ
-countBelow k [] = 0
-countBelow k (x ∷ m) =
-    let more : ℕ = suc (countBelow k m) in
-    cond (less (x .key) k) more 0
+-- How many records at the front have keys that pass a test.
+unfoldable pub countFront : (List ℕ → Bool) → List Record → ℕ
+countFront test [] = 0
+countFront test (x ∷ m) =
+    let more : ℕ = suc (countFront test m) in
+    cond (test (x .key)) more 0
 
--- How many records at the front have a key not greater than k.
-unfoldable pub countUpTo : List ℕ → List Record → ℕ
-countUpTo k [] = 0
-countUpTo k (x ∷ m) =
-    let more : ℕ = suc (countUpTo k m) in
-    cond (less k (x .key)) 0 more
+-- How many have a key less than k, and how many a key not greater than k.
+abbrev pub countBelow : List ℕ → List Record → ℕ
+countBelow k rs = countFront (λ key. less key k) rs
+
+abbrev pub countUpTo : List ℕ → List Record → ℕ
+countUpTo k rs = countFront (λ key. not (less k key)) rs
 
 -- At the position found stands a record with the key; where there is none, the position is the number of records before the key.
 abbrev pub PositionIs : List ℕ → List Record → Searched → Type 0

@@ -168,7 +168,7 @@ records-of-set rs = records-tree digestOf rs
 pub items-of-set : (rs : List Record) → items (treeOfSet rs) ≡ rs
 items-of-set rs = ap items (sym (keyed-spelt (treeOfSet rs))) ∙ records-of-set rs
 
-top-bounded : (rs : List Record) → topLayer (map placed rs) ≤ 128
+pub top-bounded : (rs : List Record) → topLayer (map placed rs) ≤ 128
 unfolding topLayer
 top-bounded [] = omega arith
 top-bounded (r ∷ rs) = omega (arith, layer-le (r .key), top-bounded rs)

@@ -22,25 +22,25 @@ Grows f = (xs ys : List (Placed Record)) → f xs ≤ f (xs ++ ys)
 
 -- ---- how many bytes a tree takes
 -- The bytes of a gap and of entries are those in their page and those of the tables below them.
-abbrev size : Page Record (List ℕ) → ℕ
+abbrev pub size : Page Record (List ℕ) → ℕ
 size p = length (table (spelt p))
 
-abbrev sizeUnder : Gap Record (List ℕ) → ℕ
+abbrev pub sizeUnder : Gap Record (List ℕ) → ℕ
 sizeUnder g = length (gapBytes (linkOf (speltUnder g))) + length (tableUnder (speltUnder g))
 
-abbrev sizeFrom : List ℕ → Entries Record (List ℕ) → ℕ
+abbrev pub sizeFrom : List ℕ → Entries Record (List ℕ) → ℕ
 sizeFrom before es = length (concat entryBytes (rawEntries (speltFrom before es))) + length (tableFrom (speltFrom before es))
 
-abbrev count : List ℕ → Entries Record (List ℕ) → ℕ
+abbrev pub count : List ℕ → Entries Record (List ℕ) → ℕ
 count before es = length (rawEntries (speltFrom before es))
 
-size-page : (g : Gap Record (List ℕ)) (es : Entries Record (List ℕ))
+pub size-page : (g : Gap Record (List ℕ)) (es : Entries Record (List ℕ))
     → size (page g es) ≡ 5 + length (numberBytes array (count [] es)) + sizeUnder g + sizeFrom [] es
 unfolding spelt table bytesOfPage rawPage pageBytes
 size-page g es = simp length-append (omega arith)
 
 -- in this form a greater number takes no fewer bytes by arithmetic alone
-number-size : (kind n : ℕ) → length (numberBytes kind n) ≡ 1 + min 1 (n / 24) + min 1 (n / 256)
+pub number-size : (kind n : ℕ) → length (numberBytes kind n) ≡ 1 + min 1 (n / 24) + min 1 (n / 256)
 unfolding numberBytes
 number-size kind n =
     cases (ltb n 24)

@@ -27,5 +27,7 @@ pub use Rattle.tree.proofs.Accept.{records-of-set, items-of-set, table-
 pub use Rattle.tree.proofs.TableBytes.{table-bytes}
 -- and no longer than that of the set with more records at its end
 pub use Rattle.tree.proofs.Growing.{table-grows}
+-- and at most so long
+pub use Rattle.tree.proofs.Largest.{table-at-most}
 -- the places of values are where they stand
 pub use Rattle.tree.proofs.PlaceLaws.{Stand, stand-length, places-stand}

@@ -10,6 +10,7 @@ pub mod Sizes
 pub mod Accept
 pub mod TableBytes
 pub mod Growing
+pub mod Largest
 pub mod PlaceLaws
 pub mod Laws
 pub mod Examples

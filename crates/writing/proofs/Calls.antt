@@ -9,7 +9,7 @@ use native.Mathlib.Omega.{arith}
 use lib.ListN.{length, take, drop, length-map, length-take, length-drop}
 use lib.Seq.{take-all, getD-take, getD-drop}
 use Rattle.limits.specs.Limits.{most}
-use Rattle.bytestring.proofs.Tools.{All, all-append, cond-inv}
+use Rattle.bytestring.proofs.Tools.{All, all-append, cond-inv, part-taken}
 use Rattle.answer.specs.declared.Refusal.the-variants.{TooManyRecords, KeyAbsent}
 use Rattle.answer.specs.declared.Answer.{Answer}
 use Rattle.key.specs.Key.{lawful, less}
@@ -41,7 +41,6 @@ use Rattle.writing.proofs.Writing.{Says, written-many, written-says, te
 use borrow.Author.Tests.{not-true}
 use Rattle.promises.specs.Range.{recordsBetween, runOutcome}
 use Rattle.row.proofs.Counting.{counts-rise, between-slice}
-use Rattle.choice.proofs.Turns.{part-is}
 use Rattle.reading.specs.Positions.{acceptedRecords}
 use Rattle.reading.proofs.Listings.{records-in}
 
@@ -160,10 +159,10 @@ module _ {s index : List ℕ} {count : ℕ} (a : Accepting s index count) (low h
   part-records : recordsOf s s part (high - low) ≡ take (high - low) (drop low (records (t a)))
   unfolding recordsOf
   part-records =
-      rw (take-all (high - low) part (omega (arith, part-length)), part-is high low index)
+      rw (take-all (high - low) part (omega (arith, part-length)), part-taken high low index)
       (records-slice s s index high low
       ∙ ap (drop low) (records-front s s index count high within ∙ ap (take high) (records-first a s))
-      ∙ sym (part-is high low (records (t a))))
+      ∙ sym (part-taken high low (records (t a))))
 
   pub range-row : RowOf s s (take (high - low) (drop low index)) (high - low) (recordsFrom low high (acceptedRecords (judge s)))
   range-row = record { whole = part-row; records = part-records ∙ ap (recordsFrom low high) (sym (records-in (a .given))) }
@@ -178,7 +177,7 @@ module _ {s index : List ℕ} {count : ℕ} (a : Accepting s index count) (first
   run-rises = omega (arith, from, to, counts-rise first last in-order (acceptedRecords (judge s)))
 
   between : recordsFrom low high (acceptedRecords (judge s)) ≡ recordsBetween first last (records (t a))
-  between = rw (from, to, records-in (a .given)) (sym (between-slice first last (records (t a)) (sorted a)))
+  between = rw (from, to, records-in (a .given)) (sym (between-slice first last in-order (records (t a)) (sorted a)))
 
   pub run-done : (room : ℕ) → written (recordsFrom low high (acceptedRecords (judge s))) room ≡ runOutcome s first last room
   run-done room =

@@ -10,11 +10,12 @@ use lib.ListN.{length, take, drop, getD, set, length-append, length-drop, length
 use lib.Seq.{length-take-le, take-take, take-set-lt, set-split, getD-drop}
 use Rattle.limits.specs.Limits.{most}
 use Rattle.bytestring.proofs.Tools.{All, all-append}
+use Rattle.key.specs.Key.{less}
 use Rattle.tree.specs.Record.{Record}
 use Rattle.row.specs.Row.{sourceOf, nothing, recordOfWord, Stands, Row, recordsOf}
 use Rattle.row.specs.Search.{keyAt, countBelow, countUpTo}
 use Rattle.row.proofs.Rows.{records-length}
-use Rattle.row.proofs.Counting.{below-few}
+use Rattle.row.proofs.Counting.{front-few}
 use Rattle.promises.proofs.MapLaws.{Sorted}
 use Rattle.choice.specs.Choice.{choiceOf, wovenOf, valueAt, wordOf, RowOf}
 use Rattle.row_words.specs.RowWords.{Inserted}
@@ -66,7 +67,7 @@ module _ {s u row : List ℕ} {n : ℕ} (r : Row s u row n) where
       absent-woven = sym (weave-absent (choiceOf g) (recordOfWord s u w) (recordsOf s u row n) at below up-to)
 
       absent-within : at ≤ n
-      absent-within = omega (arith, below-few (recordOfWord s u w .key) (recordsOf s u row n), records-length s u row n (r .room))
+      absent-within = omega (arith, front-few (λ key. less key (recordOfWord s u w .key)) (recordsOf s u row n), records-length s u row n (r .room))
 
       pub inserted-woven : (row′ : List ℕ) → n < most → n < length row′ → Inserted row n at w row′ → RowOf s u row′ (n + 1) (wovenOf g s u row n (w ∷ []) 1)
       inserted-woven row′ few room e = rw (← absent-woven) (inserted-row standing at row′ absent-within few room e)

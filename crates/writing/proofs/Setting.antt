@@ -12,6 +12,7 @@ use borrow.Table.Steps.{cases}
 use Rattle.word.specs.Word.{fromSecond}
 use Rattle.limits.specs.Limits.{most}
 use Rattle.bytestring.specs.Bytes.{Bytes}
+use Rattle.key.specs.Key.{less}
 use Rattle.tree.specs.Record.{Record, records}
 use Rattle.tree.specs.Place.{places}
 use Rattle.index.proofs.Standing.{value-within}
@@ -23,7 +24,7 @@ use Rattle.row.specs.declared.search.Searched.{Searched}
 use Rattle.row.specs.declared.search.Searched.the-variants.{At, Absent}
 use Rattle.row.proofs.Rows.{source-first, source-second, word-record, word-small, first-record, records-length}
 use Rattle.row.proofs.Memories.{no-note}
-use Rattle.row.proofs.Counting.{below-few}
+use Rattle.row.proofs.Counting.{front-few}
 use Rattle.promises.specs.Outcome.{placeOf}
 use Rattle.row_words.specs.RowWords.{Inserted, Single}
 use Rattle.choice.specs.Choice.{wovenOf, valueAt, wordOf, RowOf}
@@ -118,7 +119,7 @@ module _ {s u index : List ℕ} {n : ℕ} {found : Searched} {word : ℕ} (b : B
     counts = rw (records-first a u) (subst (PositionIs key rs) e (searched (p .accepted) key found (p .searched) .1))
 
     pub absent-within : position ≤ n
-    absent-within = omega (arith, counts .0, below-few key (recordsOf s u index n), records-length s u index n (p .accepted .room))
+    absent-within = omega (arith, counts .0, front-few (λ k. less k key) (recordsOf s u index n), records-length s u index n (p .accepted .room))
 
     pub absent-many : (g : Bool) → most ≤ n → most < length (wovenOf g s u index n (word ∷ []) 1)
     absent-many g h = omega (arith, absent-length row g (p .stands) position (counts .0) (counts .1))

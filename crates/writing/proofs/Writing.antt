@@ -24,8 +24,8 @@ use Rattle.tree.specs.Judge.{Test, due, refused, accepted, judge}
 use Rattle.writer.specs.Output.{fitsOutput, tableAnswer, tableOutput}
 use Rattle.promises.specs.Map.{find, isThere, remove}
 use Rattle.promises.specs.Outcome.{Outcome, stopped, Plan, roomTest, sizes, settle, carryOut, putPlan, joinPlan, removePlan, onFirst, putOutcome, joinOutcome, removeOutcome, answerOf, outputOf}
-use Rattle.promises.specs.Range.{recordsBetween, runTests, runVerdict, runOutcome}
-use Rattle.promises.proofs.RangeLaws.{between-few}
+use Rattle.promises.specs.Range.{isBetween, recordsBetween, runTests, runVerdict, runOutcome}
+use Rattle.promises.proofs.Parts.{whose-few}
 use Rattle.choice.specs.Choice.{choiceOf, weave}
 use Rattle.choice.proofs.Weaving.{weave-put, weave-join}
 use Rattle.writing.specs.Tests.{rangeTests, recordTests, answerDue}
@@ -179,5 +179,5 @@ module _ (s first last : List ℕ) (room : ℕ) where
     pub run-written : due (rangeTests first last) ≡ none → length (records t) ≤ most → written between room ≡ runOutcome s first last room
     unfolding runOutcome runVerdict runTests written
     run-written q few =
-        let less : length between ≤ most = omega (arith, between-few first last (records t)) in
+        let less : length between ≤ most = omega (arith, whose-few (isBetween first last) (records t)) in
         rw (e, few-sizes between room less, due-after (roomTest between room ∷ []) (rangeTests first last) q)

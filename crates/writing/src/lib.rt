@@ -2,5 +2,4 @@
 mod set; // the word of one record in an index
 mod tests; // the tests of a call's own arguments
 pub mod accepted; // part of the records of a register that is accepted
-pub mod refusal; // a refusal of a writing call
 pub mod rows; // the calls

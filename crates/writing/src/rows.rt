@@ -1,7 +1,6 @@
 // The calls, with rows that are lent: one with a word for each record of a register and one with two words for each chain of its pages.
 // A register that is accepted goes on with its rows to a function of its own.
 use crate::accepted::write_range;
-use crate::refusal::refuse;
 use crate::set::set_word;
 use crate::tests::test_range;
 use crate::tests::test_record;
@@ -18,6 +17,7 @@ use row::search::search;
 use row_words::leave_out;
 use row_words::single;
 use value::value_at;
+use writer::refusal::refuse;
 use writer::write_table;
 ghost use mathlib.Core.Path.{_≡_};
 ghost use lib.ListN.{length};

@@ -2,12 +2,13 @@
 //!
 //! An output is zero where the call is refused, and zero after what is written.
 
-use crate::key::lawful;
+use crate::key::{collection_of, is_collection, lawful};
 use crate::number::{
-    FIRST_AFTER_LAST, KEY_ABSENT, NO_ROOM, TOO_MANY_RECORDS, UNLAWFUL_KEY, VALUE_LENGTH,
+    FIRST_AFTER_LAST, KEY_ABSENT, NO_ROOM, NO_SUCH_SCREEN, TOO_MANY_RECORDS, UNLAWFUL_KEY,
+    VALUE_LENGTH,
 };
 use crate::reader::{judge, ReadPage, Record};
-use crate::{sha256, table, Digest, Set, Value, LONGEST, MOST_RECORDS};
+use crate::{sha256, table, Digest, Set, Value, LONGEST, MOST_RECORDS, PER_SCREEN};
 use std::collections::HashSet;
 
 /// Gives the count of the register's records.
@@ -155,6 +156,38 @@ fn digest_of(page: &ReadPage) -> Digest {
         Some(digest) => *digest,
         None => sha256(page.bytes),
     }
+}
+
+/// Writes the register of the records on the n-th screen of the collection, n from 0. Gives the
+/// table's length and the number of the collection's screens.
+pub fn screen(
+    register: &[u8],
+    collection: &[u8],
+    n: u64,
+    out: &mut [u8],
+) -> Result<(usize, usize), u8> {
+    out.fill(0);
+    let set = judge(register)?.set();
+    let (shown, screens) = screen_of(set, collection, n)?;
+    Ok((write(&shown, out)?, screens))
+}
+
+/// Takes the records on the n-th screen of the collection out of a set, n from 0. Gives the number
+/// of the collection's screens as well.
+pub fn screen_of(set: Set, collection: &[u8], n: u64) -> Result<(Set, usize), u8> {
+    if !is_collection(collection) {
+        return Err(UNLAWFUL_KEY);
+    }
+    let is_in = |key: &[u8]| collection_of(key) == Some(collection);
+    let records: Vec<(Vec<u8>, Value)> = set.into_iter().filter(|(key, _)| is_in(key)).collect();
+    let mut screens: Vec<&[(Vec<u8>, Value)]> = records.chunks(PER_SCREEN).collect();
+    // A collection without records has one screen without records.
+    if screens.is_empty() {
+        screens.push(&[]);
+    }
+    let n = usize::try_from(n).map_err(|_| NO_SUCH_SCREEN)?;
+    let shown = screens.get(n).ok_or(NO_SUCH_SCREEN)?;
+    Ok((shown.iter().cloned().collect(), screens.len()))
 }
 
 /// Takes the records from the first key up to and including the last out of a set.

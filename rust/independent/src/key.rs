@@ -10,17 +10,17 @@ pub const LONGEST_KEY: usize = 256;
 /// byte on each side of it; the other bytes are letters, digits, `.`, `-`, `_`, `:` and `~`. The
 /// part after the slash is neither `.` nor `..`.
 pub fn lawful(key: &[u8]) -> bool {
-    collection(key).is_some()
+    collection_of(key).is_some()
 }
 
 /// Gives the number of bytes before the slash of a lawful key.
 pub fn slash(key: &[u8]) -> Result<usize, u8> {
-    let collection = collection(key).ok_or(UNLAWFUL_KEY)?;
+    let collection = collection_of(key).ok_or(UNLAWFUL_KEY)?;
     Ok(collection.len())
 }
 
 /// Gives the part of a lawful key before the slash.
-fn collection(key: &[u8]) -> Option<&[u8]> {
+pub(crate) fn collection_of(key: &[u8]) -> Option<&[u8]> {
     if key.len() < 3 || key.len() > LONGEST_KEY {
         return None;
     }
@@ -32,6 +32,12 @@ fn collection(key: &[u8]) -> Option<&[u8]> {
         .iter()
         .all(|side| !side.is_empty() && side.iter().all(|byte| is_plain(*byte)));
     (sides_hold && after != b"." && after != b"..").then_some(before)
+}
+
+/// Says whether some lawful key has these bytes before its slash: a slash and one byte must still
+/// fit.
+pub(crate) fn is_collection(bytes: &[u8]) -> bool {
+    (1..=LONGEST_KEY - 2).contains(&bytes.len()) && bytes.iter().all(|byte| is_plain(*byte))
 }
 
 /// Says whether the byte may stand beside the slash in a key.
@@ -61,7 +67,9 @@ fn leading_zero_bits(digest: &[u8; 32]) -> u32 {
 
 #[cfg(test)]
 mod tests {
-    use super::{lawful, layer, leading_zero_bits, slash, LONGEST_KEY};
+    use super::{
+        collection_of, is_collection, lawful, layer, leading_zero_bits, slash, LONGEST_KEY,
+    };
 
     /// Keys with the number of bytes before their slash.
     #[test]
@@ -147,6 +155,33 @@ mod tests {
             assert_eq!(lawful(&[b'a', byte, b'/', b'b']), expected, "{byte}");
             assert_eq!(lawful(&[b'a', b'/', byte, b'b']), expected, "{byte}");
         }
+    }
+
+    /// Of each length, and with each byte alone and at three places: a collection is what some name
+    /// makes a lawful key of.
+    #[test]
+    fn collections() {
+        let mut strings: Vec<Vec<u8>> = (0..=300).map(|length| vec![b'a'; length]).collect();
+        strings.extend([&b"."[..], b"..", b"...", b"-.-"].map(<[u8]>::to_vec));
+        for byte in 0..=255 {
+            strings.extend([
+                vec![byte],
+                vec![byte, b'b', b'c'],
+                vec![b'a', byte, b'c'],
+                vec![b'a', b'b', byte],
+            ]);
+        }
+        let mut found = 0;
+        for bytes in &strings {
+            let key = [bytes, &b"/n"[..]].concat();
+            assert_eq!(is_collection(bytes), lawful(&key), "{bytes:?}");
+            if is_collection(bytes) {
+                assert_eq!(collection_of(&key), Some(&bytes[..]));
+                found += 1;
+            }
+        }
+        // The lengths 1 to 254, four strings of dots and dashes, and 67 bytes at 4 places.
+        assert_eq!(found, 254 + 4 + 67 * 4);
     }
 
     #[test]

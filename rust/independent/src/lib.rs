@@ -3,7 +3,7 @@
 //! The tests and benches of `mijdegen` compare the library with this crate, so it shares no code
 //! with the library and does not link it. It is written to be read, not to be fast.
 //!
-//! A refused call gives its number, from 1 to 14; [`number`] names them.
+//! A refused call gives its number, from 1 to 15; [`number`] names them.
 
 #![forbid(unsafe_code)]
 #![warn(missing_docs)]
@@ -18,7 +18,7 @@ pub mod tree;
 
 pub use calls::{
     at_or_after, before, check, difference, join, join_in, list, lookup, merge, merge_in, put,
-    put_in, remove, remove_from, result_table, run, run_of, set_of,
+    put_in, remove, remove_from, result_table, run, run_of, screen, screen_of, set_of,
 };
 pub use key::{lawful, layer, slash, LONGEST_KEY};
 pub use sha256::sha256;
@@ -41,3 +41,6 @@ pub const LONGEST: usize = 4_194_304;
 
 /// How many records a register holds at most.
 pub const MOST_RECORDS: usize = 4_096;
+
+/// How many records a screen has at most.
+pub const PER_SCREEN: usize = 8;

@@ -12,7 +12,8 @@ pub const BYTES_FOLLOW: u8 = 4;
 pub const TOO_MANY_RECORDS: u8 = 5;
 /// A prefix length is not the shared count.
 pub const WRONG_PREFIX: u8 = 6;
-/// A key in a register or argument breaks the key rule.
+/// A key in a register or argument breaks the key rule, or a collection argument is the part before
+/// the slash in no lawful key.
 pub const UNLAWFUL_KEY: u8 = 7;
 /// A key is not greater than the key before it in tree order.
 pub const KEYS_NOT_RISING: u8 = 8;
@@ -30,3 +31,5 @@ pub const KEY_ABSENT: u8 = 12;
 pub const NO_ROOM: u8 = 13;
 /// The first key is greater than the last.
 pub const FIRST_AFTER_LAST: u8 = 14;
+/// A screen number is at or past the number of screens.
+pub const NO_SUCH_SCREEN: u8 = 15;

@@ -2,7 +2,7 @@
 
 use independent::{
     at_or_after, before, check, difference, join, layer, list, lookup, merge, pages, put, remove,
-    run, set_of, sha256, table, tree, tree_of, Digest, Set, Value,
+    run, screen, set_of, sha256, table, tree, tree_of, Digest, Set, Value,
 };
 use std::collections::BTreeSet;
 
@@ -151,6 +151,54 @@ fn runs_of_records() {
         done += 1;
     }
     assert!(done > 300 && refused > 300);
+}
+
+/// The screens of collections of which one begins with another, built record by record.
+#[test]
+fn screens_of_collections() {
+    let mut random = Random(8);
+    let names = ["a", "ab", "a.b", "a-b", "a0", "."];
+    let (mut shown, mut full, mut empty) = (0, 0, 0);
+    for _ in 0..200 {
+        let mut set = Set::new();
+        for _ in 0..random.below(80) {
+            let collection = names[random.below(names.len())];
+            let key = format!("{collection}/{}", random.below(60));
+            set.insert(key.into_bytes(), random.value());
+        }
+        let register = table(&set);
+        for name in names {
+            let start = format!("{name}/").into_bytes();
+            let mut expected: Vec<Set> = vec![Set::new()];
+            for (key, value) in &set {
+                if !key.starts_with(&start) {
+                    continue;
+                }
+                if expected[expected.len() - 1].len() == 8 {
+                    expected.push(Set::new());
+                }
+                let last = expected.last_mut().expect("there is always one");
+                last.insert(key.clone(), *value);
+            }
+            for (n, set) in expected.iter().enumerate() {
+                let mut screens = 0;
+                let result = written(|out| {
+                    let (length, count) = screen(&register, name.as_bytes(), n as u64, out)?;
+                    screens = count;
+                    Ok(length)
+                });
+                assert_eq!(result, Ok(table(set)));
+                assert_eq!(screens, expected.len());
+                full += usize::from(set.len() == 8);
+                empty += usize::from(set.is_empty());
+                shown += 1;
+            }
+            let past = expected.len() as u64;
+            let result = screen(&register, name.as_bytes(), past, &mut [0; 10]);
+            assert_eq!(result, Err(15));
+        }
+    }
+    assert!(full > 300 && empty > 10 && shown > full + empty);
 }
 
 /// Random calls one after the other, against a set that is changed by hand.

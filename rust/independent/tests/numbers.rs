@@ -1,8 +1,8 @@
 //! The scope's small example of each number, and how numbers go before one another.
 
 use independent::{
-    at_or_after, before, check, difference, join, list, lookup, merge, put, remove, run, sha256,
-    slash, table, Set, Value, LONGEST, MOST_RECORDS,
+    at_or_after, before, check, difference, join, list, lookup, merge, put, remove, run, screen,
+    sha256, slash, table, Set, Value, LONGEST, MOST_RECORDS,
 };
 
 const EMPTY: [u8; 7] = [0xa2, 0x61, 0x65, 0x80, 0x61, 0x6c, 0xf6];
@@ -140,6 +140,12 @@ fn number_7() {
         assert_eq!(run(&EMPTY, b"~/~", key, &mut []), Err(7));
         assert_eq!(run(&EMPTY, key, key, &mut []), Err(7));
     }
+    for collection in [&b""[..], b"/", b"a/", b"a/b1", b"a b", &[b'a'; 255]] {
+        assert_eq!(screen(&EMPTY, collection, 0, &mut [0; 100]), Err(7));
+    }
+    for collection in [&b"a"[..], b".", b"..", &[b'a'; 254]] {
+        assert_eq!(screen(&EMPTY, collection, 0, &mut [0; 100]), Ok((7, 1)));
+    }
 }
 
 #[test]
@@ -269,6 +275,15 @@ fn number_13() {
     assert_eq!(run(&register, b"a/b2", b"a/b3", &mut out[..6]), Err(13));
     assert_eq!(run(&register, b"a/b2", b"a/b3", &mut out[..7]), Ok(7));
     assert_eq!(out[..7], EMPTY);
+
+    out.fill(0xaa);
+    assert_eq!(screen(&register, b"a", 0, &mut out[..63]), Err(13));
+    assert!(out[..63].iter().all(|byte| *byte == 0));
+    assert_eq!(screen(&register, b"a", 0, &mut out), Ok((64, 1)));
+    assert_eq!(out, register);
+    assert_eq!(screen(&register, b"b", 0, &mut out[..6]), Err(13));
+    assert_eq!(screen(&register, b"b", 0, &mut out[..7]), Ok((7, 1)));
+    assert_eq!(out[..7], EMPTY);
 }
 
 #[test]
@@ -282,6 +297,26 @@ fn number_14() {
     assert_eq!(run(&register, b"a/b2", b"a/b10", &mut out), Err(14));
     assert_eq!(run(&register, b"a/b3", b"a/b30", &mut out), Ok(7));
     assert_eq!(run(&register, b"a/b3", b"a/b3", &mut out), Ok(7));
+}
+
+#[test]
+fn number_15() {
+    let mut out = [0xaa; 300];
+    let register = two_pages();
+    // One screen of two records, and one of none. With 2^61 as the number, 8 times it is 2^64.
+    for collection in [b"a", b"b"] {
+        assert!(screen(&register, collection, 0, &mut out).is_ok());
+        for n in [1, 2, 1 << 32, 1 << 61, u64::MAX] {
+            assert_eq!(screen(&register, collection, n, &mut out), Err(15));
+            assert_eq!(out, [0; 300]);
+            out.fill(0xaa);
+        }
+    }
+    // The last screen of a full register, and one more.
+    let register = table(&many(MOST_RECORDS));
+    let (_, screens) = screen(&register, b"many", 511, &mut [0; 2_000]).expect("the last screen");
+    assert_eq!(screens, 512);
+    assert_eq!(screen(&register, b"many", 512, &mut out), Err(15));
 }
 
 /// From the root down, 129 pages may follow one another.
@@ -375,7 +410,8 @@ fn order_over_two_registers() {
     assert_eq!(list(&tenth, 0, &mut [], &mut [0; 32]), Err(10));
 }
 
-/// Register, key, absence, output; and register, first key, last key, 14, output.
+/// Register, key, absence, output; register, first key, last key, 14, output; and register,
+/// collection, 15, output.
 #[test]
 fn order_of_keys() {
     let tenth = {
@@ -403,4 +439,9 @@ fn order_of_keys() {
     assert_eq!(run(&register, b"b/b", b"a/", &mut []), Err(7));
     assert_eq!(run(&register, b"b/b", b"a/a", &mut []), Err(14));
     assert_eq!(run(&register, b"a/a", b"b/b", &mut []), Err(13));
+
+    assert_eq!(screen(&tenth, b"a/", 1, &mut []), Err(10));
+    assert_eq!(screen(&register, b"a/", 1, &mut []), Err(7));
+    assert_eq!(screen(&register, b"a", 1, &mut []), Err(15));
+    assert_eq!(screen(&register, b"a", 0, &mut []), Err(13));
 }

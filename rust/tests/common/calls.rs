@@ -3,10 +3,10 @@
 
 use super::forge::EMPTY;
 use super::neighbours::{expect_record, Neighbour, NEIGHBOURS};
-use super::sets::{greatest_key, least_key};
-use super::writes::{expect_refusal, expect_table, Call};
+use super::sets::{collection_of, greatest_key, least_key, screens_of};
+use super::writes::{expect_refusal, expect_table, expect_table_and, Call};
 use super::{hexadecimal, Random};
-use independent::sha256;
+use independent::{sha256, table};
 use mijdegen::{check, list, lookup, lookup_place, slash, split, Listed, Refusal, LONGEST};
 use std::fmt::Debug;
 
@@ -180,7 +180,7 @@ pub fn number_of(register: &[u8]) -> u8 {
 /// All calls refuse the register with the number, whatever else they are given, and the outputs
 /// are zero.
 fn compare_refused(register: &[u8], number: u8) {
-    let refusal = Refusal::from_number(number).expect("a number from 1 to 14");
+    let refusal = Refusal::from_number(number).expect("a number from 1 to 15");
     assert_eq!(lookup(register, b"a/b1"), Err(refusal), "a lawful key");
     assert_eq!(lookup(register, b"ab"), Err(refusal), "an unlawful key");
     let mut out = [0xaa; 5];
@@ -209,6 +209,7 @@ fn compare_refused(register: &[u8], number: u8) {
         Call::remove(b"a/b1"),
         Call::merge(b""),
         Call::difference(b""),
+        Call::screen(b"a/", u64::MAX),
     ];
     let turn = &calls[register.len() % calls.len()];
     expect_refusal(register, turn, register.len() % 100, number);
@@ -226,7 +227,7 @@ fn compare_refused(register: &[u8], number: u8) {
 fn compare_accepted(register: &[u8], count: usize) {
     let set = independent::set_of(register).expect("the register is accepted");
     assert_eq!(set.len(), count);
-    assert!(independent::table(&set) == register, "{}", shown(register));
+    assert!(table(&set) == register, "{}", shown(register));
 
     let mut lent = register.to_vec();
     let records: Vec<_> = set.iter().collect();
@@ -258,6 +259,13 @@ fn compare_accepted(register: &[u8], count: usize) {
     // Merged with itself it is written anew, and it lacks nothing of itself: no page is opened.
     expect_table(register, &Call::merge(register), register.len(), register);
     expect_table(register, &Call::difference(register), 7, &EMPTY);
+    // The last screen of the last collection.
+    let last_key = records.last().map_or(&b"a/b1"[..], |(key, _)| key);
+    let collection = collection_of(last_key);
+    let screens = screens_of(&set, collection);
+    let last = table(&screens[screens.len() - 1]);
+    let call = Call::screen(collection, screens.len() as u64 - 1);
+    expect_table_and(register, &call, last.len(), &last, screens.len());
 }
 
 /// Compares slash and split with the independent crate, by the safe and by the C functions. Gives

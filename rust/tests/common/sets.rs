@@ -2,6 +2,8 @@
 
 use super::Random;
 use independent::{lawful, layer, Set, LONGEST, LONGEST_KEY};
+use mijdegen::PER_SCREEN;
+use std::collections::BTreeSet;
 
 /// The counts of records that the tests try.
 pub const COUNTS: [usize; 8] = [0, 1, 2, 3, 10, 100, 1_000, 4_096];
@@ -64,6 +66,10 @@ pub const HIGH: [&str; 17] = [
     "layer/0000224576",
     "layer/0000009285",
 ];
+
+/// Collections that begin with one another, some with a byte behind it that stands beside the slash
+/// in the order of bytes.
+pub const NEAR_COLLECTIONS: [&[u8]; 6] = [b"a", b"ab", b"a.b", b"a-b", b"a0", b"a~"];
 
 /// The bytes that may stand beside the slash, in their order.
 const PLAIN: &[u8] = b"-.0123456789:ABCDEFGHIJKLMNOPQRSTUVWXYZ_abcdefghijklmnopqrstuvwxyz~";
@@ -138,6 +144,36 @@ pub fn of_layer(set: &Set, wanted: u8) -> Set {
 pub fn one_page_below_high(count: usize) -> Set {
     let set = of_layer(&set(Kind::Chains, count + 2 * HIGH.len()), 0);
     part(&set, |n| n < count)
+}
+
+/// Gives the part of the key before its first slash, or all of it where there is none.
+pub fn collection_of(key: &[u8]) -> &[u8] {
+    let mut parts = key.split(|byte| *byte == b'/');
+    parts.next().expect("there is always a first part")
+}
+
+/// Gives so many records of a collection, with short names in turn and random values.
+pub fn records_of(random: &mut Random, collection: &[u8], count: usize) -> Set {
+    let key = |number: usize| [collection, format!("/b{number}").as_bytes()].concat();
+    (0..count)
+        .map(|number| (key(number), value(random)))
+        .collect()
+}
+
+/// Gives the collections of the set's keys, each once.
+pub fn collections(set: &Set) -> BTreeSet<&[u8]> {
+    set.keys().map(|key| collection_of(key)).collect()
+}
+
+/// Gives the screens of a collection in a set: its records in key order, eight to a screen, and one
+/// screen without records where it has none.
+pub fn screens_of(set: &Set, collection: &[u8]) -> Vec<Set> {
+    let mut own = set.clone();
+    own.retain(|key, _| collection_of(key) == collection);
+    let screens = own.len().div_ceil(PER_SCREEN).max(1);
+    (0..screens)
+        .map(|screen| part(&own, |n| n / PER_SCREEN == screen))
+        .collect()
 }
 
 /// Gives the trees that are published with the format, each with the digest of its root page.

@@ -1,11 +1,11 @@
-//! The six writing calls as one type, and their comparison with the crate `independent`.
+//! The seven writing calls as one type, and their comparison with the crate `independent`.
 //!
-//! A call that is done gives the value of its answer: the length of the table, and for difference
-//! 2^24 times the number of opened pages besides.
+//! A call that is done gives the value of its answer: the length of the table, and besides 2^24
+//! times the number of opened pages, for difference, or of screens, for screen.
 
 use super::calls::{
     answer, mijdegen_difference, mijdegen_join, mijdegen_merge, mijdegen_put, mijdegen_remove,
-    mijdegen_run, shown, Surrounded,
+    mijdegen_run, mijdegen_screen, shown, Surrounded,
 };
 use independent::{Set, LONGEST};
 use mijdegen::Refusal;
@@ -20,11 +20,13 @@ pub enum Call {
     Remove { key: Vec<u8> },
     Merge { second: Vec<u8> },
     Difference { second: Vec<u8> },
+    Screen { collection: Vec<u8>, n: u64 },
 }
 
-/// Gives the value of an answer from the table's length and the number of opened pages.
-pub fn difference_value(length: usize, opened: usize) -> usize {
-    length + (opened << 24)
+/// Gives the value of an answer from the table's length and the second number: that of opened
+/// pages or of screens, or 0 where there is none.
+pub fn value_of_two(length: usize, second: usize) -> usize {
+    length + (second << 24)
 }
 
 /// Gives the table's length from the value of an answer. No table has 2^24 bytes.
@@ -70,6 +72,13 @@ impl Call {
         }
     }
 
+    pub fn screen(collection: &[u8], n: u64) -> Call {
+        Call::Screen {
+            collection: collection.to_vec(),
+            n,
+        }
+    }
+
     /// Calls the safe function.
     pub fn safe(&self, register: &[u8], out: &mut [u8]) -> Result<usize, u8> {
         let result = match self {
@@ -79,7 +88,12 @@ impl Call {
             Call::Remove { key } => mijdegen::remove(register, key, out),
             Call::Merge { second } => mijdegen::merge(register, second, out),
             Call::Difference { second } => mijdegen::difference(register, second, out)
-                .map(|found| difference_value(found.length, found.opened)),
+                .map(|found| value_of_two(found.length, found.opened)),
+            Call::Screen { collection, n } => {
+                let n = usize::try_from(*n).expect("64 bits");
+                mijdegen::screen(register, collection, n, out)
+                    .map(|found| value_of_two(found.length, found.screens))
+            }
         };
         result.map_err(Refusal::number)
     }
@@ -149,6 +163,15 @@ impl Call {
                     out.start(),
                     out_length,
                 ),
+                Call::Screen { collection, n } => mijdegen_screen(
+                    reg,
+                    reg_len,
+                    lent(collection),
+                    collection.len(),
+                    *n,
+                    out.start(),
+                    out_length,
+                ),
             }
         };
         assert!(copy == register, "the register was changed by {self:?}");
@@ -165,13 +188,15 @@ impl Call {
             Call::Remove { key } => independent::remove(register, key, out),
             Call::Merge { second } => independent::merge(register, second, out),
             Call::Difference { second } => independent::difference(register, second, out)
-                .map(|(length, opened)| difference_value(length, opened)),
+                .map(|(length, opened)| value_of_two(length, opened)),
+            Call::Screen { collection, n } => independent::screen(register, collection, *n, out)
+                .map(|(length, screens)| value_of_two(length, screens)),
         }
     }
 
     /// Does to a plain set what the call does to its register, or gives the number that is due on
-    /// what the call is handed. Run gives the records between its keys. Difference gives the
-    /// records that the set lacks, which can be told without any pages.
+    /// what the call is handed. Run gives the records between its keys, and screen those that it
+    /// shows. Difference gives the records that the set lacks, which can be told without any pages.
     pub fn change(&self, set: Set) -> Result<Set, u8> {
         match self {
             Call::Run { first, last } => independent::run_of(set, first, last),
@@ -186,6 +211,10 @@ impl Call {
                 let mut second = independent::set_of(second)?;
                 second.retain(|key, value| set.get(key) != Some(value));
                 Ok(second)
+            }
+            Call::Screen { collection, n } => {
+                let (shown, _) = independent::screen_of(set, collection, *n)?;
+                Ok(shown)
             }
         }
     }
@@ -205,6 +234,7 @@ impl fmt::Debug for Call {
             Call::Remove { key } => write!(formatter, "remove {}", text(key)),
             Call::Merge { second } => write!(formatter, "merge {}", shown(second)),
             Call::Difference { second } => write!(formatter, "difference {}", shown(second)),
+            Call::Screen { collection, n } => write!(formatter, "screen {} {n}", text(collection)),
         }
     }
 }
@@ -233,9 +263,22 @@ pub fn expect_outcome(
 
 /// Expects the table and zeros after it, in an output of this length.
 pub fn expect_table(register: &[u8], call: &Call, out_length: usize, table: &[u8]) {
+    expect_table_and(register, call, out_length, table, 0);
+}
+
+/// Expects the table and zeros after it, in an output of this length, and the second number of the
+/// answer.
+pub fn expect_table_and(
+    register: &[u8],
+    call: &Call,
+    out_length: usize,
+    table: &[u8],
+    second: usize,
+) {
     let mut output = table.to_vec();
     output.resize(out_length, 0);
-    expect_outcome(register, call, Ok(table.len()), &output);
+    let value = value_of_two(table.len(), second);
+    expect_outcome(register, call, Ok(value), &output);
 }
 
 /// Expects the number and zeros alone, in an output of this length.
@@ -286,7 +329,7 @@ pub fn written(register: &[u8], call: &Call) -> Vec<u8> {
     let handed = match call {
         Call::Merge { second } | Call::Difference { second } => second.len(),
         Call::Put { key, .. } | Call::Join { key, .. } | Call::Remove { key } => key.len(),
-        Call::Run { .. } => 0,
+        Call::Run { .. } | Call::Screen { .. } => 0,
     };
     for room in [2 * (register.len() + handed) + 1_000, LONGEST] {
         let mut out = vec![0xaa; room];

@@ -1,8 +1,8 @@
 use borrow.Author.Needs.{needs}
 use mathlib.Core.Path.{ap, _∙_, sym, subst}
-use Rattle.answer.specs.Inner.{LengthFits}
+use Rattle.answer.specs.Inner.{FirstFits}
 use Rattle.promises.proofs.Promises.{difference-short}
-use Rattle.answer.specs.Answer.{encodedDifference}
+use Rattle.answer.specs.Answer.{encodedOfTwo}
 use Rattle.mijdegen.proofs.mijdegen_difference.Statement.{statement}
 use Rattle.mijdegen.proofs.mijdegen_difference.Tie as tie
 
@@ -11,6 +11,6 @@ mijdegen-difference-spec =
     tie.close
     (tie.spec
     (λ c κs. tt)
-    (λ c κs. subst LengthFits (sym (c .before .before .difference .ensures .0)) (difference-short _ _ _))
+    (λ c κs. subst FirstFits (sym (c .before .before .difference .ensures .0)) (difference-short _ _ _))
     (λ c. search needs)
-    (λ c. (c .encode-difference .ensures ∙ ap encodedDifference (c .before .before .before .difference .ensures .0), c .before .before .before .difference .ensures .1)))
+    (λ c. (c .encode-two .ensures ∙ ap encodedOfTwo (c .before .before .before .difference .ensures .0), c .before .before .before .difference .ensures .1)))

@@ -35,7 +35,7 @@ returns c =
     let a = accepting (λ i h. omega (arith, c .before .before .before .before .before .before .before .before .before .before .before .before .before .before .before .before .before .before .before .before .before .before .before .before .shared-slice-known .given i)) (c .before .before .before .before .before .before .before .before .before .before .before .before .before .before .before .before .before .before .before .before .before .before .before .before .before .pre .0) in
     let b = accepting (λ i h. omega (arith, c .before .before .before .before .before .before .before .before .before .before .before .before .before .before .before .before .before .before .before .before .before .before .before .shared-slice-known2 .given i)) (c .before .before .before .before .before .before .before .before .before .before .before .before .before .before .before .before .before .before .before .before .before .before .before .before .before .pre .1) in
     let opening = c .before .before .before .before .before .before .before .before .before .before .before .before .before .before .open-pages in
-    difference-says a b (opening .result) _ (opening .ensures) (omega (arith, c .before .before .before .before .before .before .before .before .before .before .before .before .before .before .before .before .before .before .before .before .before .before .before .before .before .pre .4, opening .kept .1 .1 .1 .1 .1 .1 .1 .1 .0)) _ _ (c .before .before .before .before .before .before .before .before .leave-held .ensures) _ (c .before .before .before .write-table .ensures) (c .with-opened .ensures)
+    difference-says a b (opening .result) _ (opening .ensures) (omega (arith, c .before .before .before .before .before .before .before .before .before .before .before .before .before .before .before .before .before .before .before .before .before .before .before .before .before .pre .4, opening .kept .1 .1 .1 .1 .1 .1 .1 .1 .0)) _ _ (c .before .before .before .before .before .before .before .before .leave-held .ensures) _ (c .before .before .before .write-table .ensures) (c .with-second .ensures)
 
 pub differ-spec : {M : Type 1} → statement M
 differ-spec =

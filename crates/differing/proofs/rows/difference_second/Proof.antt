@@ -1,7 +1,8 @@
 use native.Mathlib.Omega.{arith}
 use Rattle.bytestring.proofs.Tools.{bytes-of}
+use Rattle.promises.proofs.CountedLaws.{counted-refused}
 use Rattle.reading.proofs.Verdicts.{accepted-rows, judged-refused, accepted-few, accepted-long}
-use Rattle.differing.proofs.Differing.{refuses, second-refused}
+use Rattle.differing.proofs.Differing.{second-refused}
 use borrow.Author.Needs.{needs}
 use Rattle.differing.proofs.rows.difference_second.Statement.{statement}
 use Rattle.differing.proofs.rows.difference_second.Tie as tie
@@ -14,7 +15,7 @@ differ-requires c κs =
 
 returns-2 : tie.Need-returns-2
 returns-2 c =
-    refuses _ _ _ (second-refused _ _ _ _ (c .before .before .before .before .before .before .before .before .before .before .before .before .before .before .before .before .before .before .before .before .before .before .pre .0 .judged) (judged-refused _ _ _ _ (c .before .before .before .before .before .before .before .before .before .before .before .judge .ensures) (c .before .before .before .before .before .refusal .given .1))) (c .before .before .refuse-difference .ensures)
+    counted-refused _ _ _ (second-refused _ _ _ _ (c .before .before .before .before .before .before .before .before .before .before .before .before .before .before .before .before .before .before .before .before .before .before .pre .0 .judged) (judged-refused _ _ _ _ (c .before .before .before .before .before .before .before .before .before .before .before .judge .ensures) (c .before .before .before .before .before .refusal .given .1))) (c .before .before .refuse-two .ensures)
 
 pub difference-second-spec : {M : Type 1} → statement M
 difference-second-spec =

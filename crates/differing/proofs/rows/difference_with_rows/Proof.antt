@@ -1,5 +1,6 @@
+use Rattle.promises.proofs.CountedLaws.{counted-refused}
 use Rattle.reading.proofs.Verdicts.{accepted-rows, judged-refused}
-use Rattle.differing.proofs.Differing.{refuses, first-refused}
+use Rattle.differing.proofs.Differing.{first-refused}
 use borrow.Author.Needs.{needs}
 use Rattle.differing.proofs.rows.difference_with_rows.Statement.{statement}
 use Rattle.differing.proofs.rows.difference_with_rows.Tie as tie
@@ -12,7 +13,7 @@ difference-second-requires c κs =
 
 returns-2 : tie.Need-returns-2
 returns-2 c =
-    refuses _ _ _ (first-refused _ _ _ (judged-refused _ _ _ _ (c .before .before .before .before .before .before .before .before .before .before .before .judge .ensures) (c .before .before .before .before .before .refusal .given .1))) (c .before .before .refuse-difference .ensures)
+    counted-refused _ _ _ (first-refused _ _ _ (judged-refused _ _ _ _ (c .before .before .before .before .before .before .before .before .before .before .before .judge .ensures) (c .before .before .before .before .before .refusal .given .1))) (c .before .before .refuse-two .ensures)
 
 pub difference-with-rows-spec : {M : Type 1} → statement M
 difference-with-rows-spec =

@@ -1,11 +1,13 @@
 // What a writing call does that refuses.
 use answer::Answer;
+use answer::AnswerOfTwo;
 use answer::Refusal;
 use bytestring::clear;
 ghost use mathlib.Core.Path.{_≡_};
 ghost use lib.ListN.{length};
 ghost use Rattle.bytestring.specs.Bytes.{zeros};
 ghost use Rattle.answer.specs.declared.Answer.the-variants.{Refused};
+ghost use Rattle.answer.specs.declared.AnswerOfTwo.the-variants.{Refused as BothRefused};
 
 // A refusal: its number is answered, and the output is zero.
 pub fn refuse(out: &mut [u8], refusal: Refusal) -> Answer
@@ -14,4 +16,13 @@ pub fn refuse(out: &mut [u8], refusal: Refusal) -> Answer
 {
     clear(out);
     Answer::Refused(refusal)
+}
+
+// The same of a call with two values.
+pub fn refuse_two(out: &mut [u8], refusal: Refusal) -> AnswerOfTwo
+    ensures answer { λ r. ⌜ r ≡ BothRefused refusal ⌝ }
+    ensures output { λ _. ⌜ now (out .exit) ≡ zeros (length (now (out .entry))) ⌝ }
+{
+    clear(out);
+    AnswerOfTwo::Refused(refusal)
 }

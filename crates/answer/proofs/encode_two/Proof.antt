@@ -1,16 +1,16 @@
 use mathlib.Core.Path.{subst}
 use native.Mathlib.Omega.{arith}
-use Rattle.answer.specs.Inner.{LengthFits}
+use Rattle.answer.specs.Inner.{FirstFits}
 use borrow.Author.Needs.{needs}
-use Rattle.answer.proofs.encode_difference.Statement.{statement}
-use Rattle.answer.proofs.encode_difference.Tie as tie
+use Rattle.answer.proofs.encode_two.Statement.{statement}
+use Rattle.answer.proofs.encode_two.Tie as tie
 
 mul-result-2 : tie.Need-mul-result-2
 mul-result-2 c =
-    omega (arith, subst LengthFits (c .before .differed .given .1) (c .before .before .before .pre))
+    omega (arith, subst FirstFits (c .before .answer .given .1) (c .before .before .before .pre))
 
-pub encode-difference-spec : {M : Type 1} → statement M
-encode-difference-spec =
+pub encode-two-spec : {M : Type 1} → statement M
+encode-two-spec =
     tie.close
     (tie.spec
     (λ c. search needs)

@@ -1,0 +1,3 @@
+pub mod Screen
+pub mod Order
+pub mod Promises
