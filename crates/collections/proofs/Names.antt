@@ -1,19 +1,20 @@
 -- Collection names: the part before the slash in some lawful key, by its bytes, and by the test of the call.
 use Prim.Native.Nat.{ℕ, _+_}
 use mathlib.Core.Path.{_≡_, refl, sym, ap, _∙_}
-use mathlib.Core.Bool.{true, false, false≢true}
+use mathlib.Core.Bool.{true, false, _&&_, false≢true}
 use mathlib.Core.List.{List, [], _∷_, _++_}
 use native.Mathlib.Omega.{arith}
-use lib.Dec.{eqb}
+use lib.Dec.{eqb, leb}
 use lib.ListN.{length, length-append}
-use borrow.Author.Tests.{le-leb}
+use borrow.Author.Tests.{le-leb, leb-true}
 use borrow.Table.Steps.{cases}
 use Rattle.limits.specs.Limits.{longestKey}
+use Rattle.bytestring.proofs.Tools.{and-inv}
 use Rattle.key.specs.Key.{slashByte, ordinary, collection, name, allOrdinary, lawful}
 use Rattle.key.proofs.Lawful.{ordinary-no-slash, no-collection, no-name, lawful-parts}
 use Rattle.key.proofs.SlashLaws.{slash-stands}
 use Rattle.key.proofs.Laws.{lawful-length}
-use Rattle.collections.specs.Screen.{isCollectionName}
+use Rattle.collections.specs.Screen.{longestCollection, isCollectionName}
 use Rattle.collections.specs.Order.{CollectionName, ShortOrdinary}
 use Rattle.collections.specs.Promises.{CollectionNames}
 
@@ -53,17 +54,16 @@ module _ (rest : List ℕ) where
 
 -- ---- a name by its bytes
 pub short-passes : (c : List ℕ) → ShortOrdinary c → isCollectionName c ≡ true
-unfolding isCollectionName lawful allOrdinary ordinary
+unfolding isCollectionName
 short-passes c h =
-    rw (
-      collection-key _ c (h .bytes),
-      name-key _ c (h .bytes),
-      length-append,
-      le-leb 3 (length c + 2) (omega (arith, h .some)),
-      le-leb (length c + 2) longestKey (omega (arith, h .few)),
-      le-leb 1 (length c) (h .some),
-      h .bytes,
-    )
+    rw (le-leb 1 (length c) (h .some), le-leb (length c) longestCollection (omega (arith, h .few)), h .bytes)
+
+pub passes-short : (c : List ℕ) → isCollectionName c ≡ true → ShortOrdinary c
+unfolding isCollectionName
+passes-short c h =
+    let w = and-inv (leb 1 (length c) && leb (length c) longestCollection) h in
+    let sizes = and-inv (leb 1 (length c)) (w .0) in
+    record { some = leb-true 1 (length c) (sizes .0); few = omega (arith, leb-true (length c) longestCollection (sizes .1)); bytes = w .1 }
 
 pub name-short : (c : List ℕ) → CollectionName c → ShortOrdinary c
 name-short c n =
@@ -79,12 +79,27 @@ name-short c n =
       bytes = rw (← n .before) (lawful-parts k (n .rule) .0);
     }
 
--- ---- a name that passes the test
-pub passes-name : (c : List ℕ) → isCollectionName c ≡ true → CollectionName c
-unfolding isCollectionName
-passes-name c h =
-    let w = lawful-parts _ h in
-    record { key = _; rule = h; before = collection-key _ c (parts-ordinary _ c (w .0) (w .1)) }
+-- ---- the key of the name and the letter a
+abbrev pub tried : List ℕ → List ℕ
+tried c = key (0x61 ∷ []) c
+
+pub short-tried : (c : List ℕ) → ShortOrdinary c → lawful (tried c) ≡ true
+unfolding lawful allOrdinary ordinary
+short-tried c h =
+    rw (
+      collection-key (0x61 ∷ []) c (h .bytes),
+      name-key (0x61 ∷ []) c (h .bytes),
+      length-append,
+      le-leb 3 (length c + 2) (omega (arith, h .some)),
+      le-leb (length c + 2) longestKey (omega (arith, h .few)),
+      le-leb 1 (length c) (h .some),
+      h .bytes,
+    )
+
+pub tried-name : (c : List ℕ) → lawful (tried c) ≡ true → CollectionName c
+tried-name c h =
+    let w = lawful-parts (tried c) h in
+    record { key = tried c; rule = h; before = collection-key (0x61 ∷ []) c (parts-ordinary (0x61 ∷ []) c (w .0) (w .1)) }
 
 pub collection-names : CollectionNames
-collection-names c = (name-short c, λ h. passes-name c (short-passes c h))
+collection-names c = (name-short c, λ h. tried-name c (short-tried c h))

@@ -1,16 +1,16 @@
 -- The promises on the screens of a register.
-use Prim.Native.Nat.{ℕ, _≤_}
+use Prim.Native.Nat.{ℕ}
 use mathlib.Core.Path.{_≡_, sym, _∙_}
 use mathlib.Core.Bool.{true, false, false≢true}
 use mathlib.Core.List.{List, [], _∷_, Sublistᴰ, Sublistᴰ·trans}
 use native.Mathlib.Omega.{arith}
 use lib.Dec.{ltb, leb}
 use lib.ListN.{length}
-use borrow.Author.Tests.{le-ltb, lt-ltb, le-leb, leb-true, eqb-true}
+use borrow.Author.Tests.{le-ltb, lt-ltb, le-leb, leb-true}
 use borrow.Table.Steps.{cases}
 use Rattle.limits.specs.Limits.{longest}
 use Rattle.bytestring.specs.Bytes.{ByteString}
-use Rattle.bytestring.proofs.Tools.{and-inv, all-weaken}
+use Rattle.bytestring.proofs.Tools.{and-inv}
 use Rattle.bytestring.proofs.Equal.{equal-refl, equal-cases}
 use Rattle.answer.specs.Answer.{numberOf}
 use Rattle.answer.specs.Inner.{FirstFits}
@@ -18,12 +18,10 @@ use Rattle.answer.specs.declared.Refusal.{Refusal}
 use Rattle.answer.specs.declared.Refusal.the-variants.{UnlawfulKey, NoSuchScreen}
 use Rattle.answer.proofs.Laws.{two-come-apart}
 use Rattle.key.specs.Key.{collection}
-use Rattle.key.proofs.Laws.{lawful-length}
 use Rattle.tree.specs.Record.{Record, records}
 use Rattle.tree.specs.Table.{tableOf}
 use Rattle.tree.specs.Judge.{Test, due, Verdict, refused, accepted, judge}
-use Rattle.value.specs.Value.{isValue}
-use Rattle.tree.proofs.Laws.{LawfulKey, RightValue, fitting-fits, due-none, table-at-most}
+use Rattle.tree.proofs.Laws.{fitting-fits, due-none, table-at-most}
 use Rattle.promises.specs.Outcome.{roomTest}
 use Rattle.promises.specs.Counted.{settleCounted, countedAnswer, countedOutput}
 use Rattle.promises.specs.Register.{RegisterOf}
@@ -35,7 +33,7 @@ use Rattle.promises.proofs.Promises.{settled-short}
 use Rattle.collections.specs.Screen.{isCollectionName, isIn, ofCollection, screens, onScreen, screenTests, screenVerdict, screenOutcome}
 use Rattle.collections.specs.Order.{CollectionName, screenReply}
 use Rattle.collections.specs.Promises.{ScreenReplies, ScreenComesApart, CollectionFinds, EachRecordOnce, NoOtherRecord, ScreensAccepted, EveryScreenIsShown}
-use Rattle.collections.proofs.Names.{name-short, short-passes, passes-name}
+use Rattle.collections.proofs.Names.{short-passes, passes-short, name-short, collection-names}
 use Rattle.collections.proofs.Screens.{screen-part, screen-few, on-one-screen}
 
 -- ---- the records of an accepted register
@@ -57,7 +55,7 @@ module _ (s c : List ℕ) (n room : ℕ) where
 
 -- a name passes exactly where some lawful key has it
 name-fails : (c : List ℕ) → (CollectionName c → ⊥) → isCollectionName c ≡ false
-name-fails c h = cases (isCollectionName c) (λ e. absurd (h (passes-name c e))) (λ e. e)
+name-fails c h = cases (isCollectionName c) (λ e. absurd (h (collection-names c .1 (passes-short c e)))) (λ e. e)
 
 name-passes : (c : List ℕ) → ((CollectionName c → ⊥) → ⊥) → isCollectionName c ≡ true
 name-passes c h = cases (isCollectionName c) (λ e. e) (λ e. absurd (h (λ n. false≢true (sym e ∙ short-passes c (name-short c n)))))
@@ -125,18 +123,12 @@ no-other-record s rs r c key n =
     )
 
 -- ---- a screen is short, so that it is accepted as the register of its records
-value-length : (r : Record) → RightValue r → length (r .val) ≡ 32
-unfolding isValue
-value-length r h = eqb-true (length (r .val)) 32 h
-
 pub screens-accepted : ScreensAccepted
 screens-accepted s rs r c n =
     let on : List Record = shown c n rs in
     let p : Proper on = proper-part (shown-part c n rs) (register-proper s rs r) in
     let few = screen-few n (ofCollection c rs) in
-    let size =
-    table-at-most on (all-weaken LawfulKey (λ x. length (x .key) ≤ 256) (λ x. lawful-length (x .key)) on (p .keys))
-    (all-weaken RightValue (λ x. length (x .val) ≡ 32) value-length on (p .values)) in (
+    let size = table-at-most on (p .keys) (p .values) in (
       register-of on (fitting-fits on (record {
         count = omega (arith, few);
         order = sorted-rising on (p .order);

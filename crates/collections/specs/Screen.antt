@@ -1,12 +1,12 @@
 -- The drawer screen: the records of a collection, eight to a screen, and what the call for a screen answers and writes.
 use Prim.Native.Nat.{ℕ, _+_, _*_, _/_}
-use mathlib.Core.Bool.{Bool, cond}
-use mathlib.Core.List.{List, [], _∷_, _++_}
-use lib.Dec.{eqb, ltb}
+use mathlib.Core.Bool.{Bool, cond, _&&_}
+use mathlib.Core.List.{List, [], _∷_}
+use lib.Dec.{eqb, ltb, leb}
 use lib.ListN.{length, take, drop}
 use Rattle.answer.specs.declared.Refusal.the-variants.{UnlawfulKey, NoSuchScreen}
 use Rattle.bytestring.specs.Bytes.{equal}
-use Rattle.key.specs.Key.{slashByte, collection, lawful}
+use Rattle.key.specs.Key.{collection, allOrdinary}
 use Rattle.tree.specs.Record.{Record, records}
 use Rattle.tree.specs.Judge.{Test, due, Verdict, refused, accepted, judge}
 use Rattle.promises.specs.Map.{whose}
@@ -14,9 +14,12 @@ use Rattle.promises.specs.Outcome.{roomTest}
 use Rattle.promises.specs.Counted.{CountedOutcome, stopped, settleCounted}
 
 -- ---- collections
--- A collection name is the part before the slash in some lawful key. Where there is such a key, the name with a slash and the letter a is one.
+-- A collection name is the part before the slash in some lawful key: 1 to 254 ordinary bytes, since a slash and one byte must still fit.
+abbrev pub longestCollection : ℕ
+longestCollection = 254
+
 unfoldable pub isCollectionName : List ℕ → Bool
-isCollectionName c = lawful (c ++ (slashByte ∷ 0x61 ∷ []))
+isCollectionName c = leb 1 (length c) && leb (length c) longestCollection && allOrdinary c
 
 -- The records of a collection, in key order: those whose keys have its name before the slash.
 abbrev pub isIn : List ℕ → List ℕ → Bool

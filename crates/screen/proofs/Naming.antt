@@ -1,17 +1,17 @@
 -- A collection's name in a buffer, with bytes behind it; the name's test; and where its records begin and end.
 use Prim.Native.Nat.{ℕ, suc, _+_, _-_, _≤_, _<_}
 use mathlib.Core.Path.{_≡_, sym, ap, _∙_}
-use mathlib.Core.Bool.{Bool, true, false}
+use mathlib.Core.Bool.{Bool, true, false, false≢true}
 use mathlib.Core.List.{List, [], _∷_, _++_}
 use native.Mathlib.Omega.{arith}
-use lib.ListN.{length, take, set, replicate, length-append}
+use lib.ListN.{length, take, set, replicate}
 use lib.Seq.{take-append-add, set-append-seam}
+use borrow.Table.Steps.{cases}
 use Rattle.bytestring.proofs.Tools.{All, all-weaken, drop-replicate}
 use Rattle.bytestring.specs.Bytes.{front}
 use Rattle.answer.specs.declared.Answer.the-variants.{Done, Refused}
 use Rattle.answer.specs.declared.Refusal.{Refusal}
 use Rattle.key.specs.Key.{slashByte, less, slashAnswer}
-use Rattle.key.proofs.Lawful.{long-unlawful}
 use Rattle.key.proofs.SlashLaws.{slash-done, slash-refused}
 use Rattle.tree.specs.Record.{records}
 use Rattle.tree.specs.Judge.{judge}
@@ -23,7 +23,8 @@ use Rattle.reading.proofs.Verdicts.{Accepting, t, sorted}
 use Rattle.reading.proofs.Listings.{records-in}
 use Rattle.writing.specs.Writing.{recordsFrom}
 use Rattle.collections.specs.Screen.{isCollectionName, isIn, ofCollection}
-use Rattle.collections.proofs.Names.{passes-name, name-short}
+use Rattle.collections.specs.Order.{ShortOrdinary}
+use Rattle.collections.proofs.Names.{short-passes, passes-short, name-short, tried, short-tried, tried-name}
 use Rattle.collections.proofs.Bounds.{from, to, below-bounds, from-bound}
 
 -- ---- the buffer
@@ -47,30 +48,27 @@ module _ (name : List ℕ) (b size : ℕ) where
 
 -- ---- the test
 module _ (c : List ℕ) where
-  abbrev key : List ℕ
-  key = c ++ (slashByte ∷ 0x61 ∷ [])
-
   -- the key that is tried stands in the buffer
   pub key-tried : (buffer : List ℕ) → buffer ≡ front c (replicate 256 0x61) → length c ≤ 254
-      → slashAnswer key ≡ slashAnswer (take (length c + 2) (set buffer (length c) slashByte))
+      → slashAnswer (tried c) ≡ slashAnswer (take (length c + 2) (set buffer (length c) slashByte))
   key-tried buffer e h =
       let same = ap (λ (s : List ℕ). take (length c + 2) (set s (length c) slashByte)) e ∙ two-behind c 0x61 256 slashByte (omega arith) in
       ap slashAnswer (sym same)
 
-  pub name-lawful : {n : ℕ} → slashAnswer key ≡ Done n → isCollectionName c ≡ true
-  unfolding isCollectionName
-  name-lawful e = slash-done key _ e
+  pub name-lawful : {n : ℕ} → slashAnswer (tried c) ≡ Done n → isCollectionName c ≡ true
+  name-lawful e = short-passes c (name-short c (tried-name c (slash-done (tried c) _ e)))
 
-  pub name-unlawful : {r : Refusal} → slashAnswer key ≡ Refused r → isCollectionName c ≡ false
-  unfolding isCollectionName
-  name-unlawful e = slash-refused key _ e .0
+  not-name : (ShortOrdinary c → ⊥) → isCollectionName c ≡ false
+  not-name h = cases (isCollectionName c) (λ e. absurd (h (passes-short c e))) (λ e. e)
+
+  pub name-unlawful : {r : Refusal} → slashAnswer (tried c) ≡ Refused r → isCollectionName c ≡ false
+  name-unlawful e = not-name (λ h. false≢true (sym (slash-refused (tried c) _ e .0) ∙ short-tried c h))
 
   pub name-long : 254 < length c → isCollectionName c ≡ false
-  unfolding isCollectionName
-  name-long h = long-unlawful key (omega (arith, length-append c (slashByte ∷ 0x61 ∷ [])))
+  name-long h = not-name (λ s. omega (arith, s .few))
 
   pub name-fits : isCollectionName c ≡ true → length c < 256
-  name-fits h = omega (arith, name-short c (passes-name c h) .few)
+  name-fits h = omega (arith, passes-short c h .few)
 
 -- ---- the records of the collection stand together
 module _ {s index : List ℕ} {count : ℕ} (a : Accepting s index count) (c : List ℕ) (h : isCollectionName c ≡ true) (low high : ℕ)
@@ -81,7 +79,7 @@ module _ {s index : List ℕ} {count : ℕ} (a : Accepting s index count) (c : L
   windows : All (Window (below (from c)) (below (to c)) (isIn c)) (records (t a))
   windows =
       all-weaken LawfulKey (Window (below (from c)) (below (to c)) (isIn c))
-      (λ r l. record { below = below-bounds (r .key) c l; from = from-bound (r .key) c l (name-short c (passes-name c h) .bytes) })
+      (λ r l. record { below = below-bounds (r .key) c l; from = from-bound (r .key) c l (passes-short c h .bytes) })
       (records (t a)) (accepted-table s (a .bytes) (t a) (a .given .judged) .fit .keys)
 
   pub bounds-rise : low ≤ high

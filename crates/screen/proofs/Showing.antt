@@ -7,9 +7,8 @@ use native.Mathlib.Omega.{arith}
 use lib.Dec.{leb, eqb}
 use lib.ListN.{length, take, drop, length-take, length-drop}
 use lib.Seq.{take-all, take-take, drop-drop}
-use borrow.Author.Tests.{le-ltb, lt-ltb, le-leb, leb-true, leb-false, eqb-true, eqb-false, ne-eqb}
+use borrow.Author.Tests.{le-ltb, lt-ltb, leb-true, leb-false, eqb-true, eqb-false, ne-eqb}
 use borrow.Table.Steps.{cases}
-use Rattle.limits.specs.Limits.{most}
 use Rattle.bytestring.proofs.Tools.{part-taken}
 use Rattle.answer.specs.Inner.{withSecond}
 use Rattle.answer.specs.declared.Refusal.{Refusal}
@@ -19,7 +18,7 @@ use Rattle.answer.specs.declared.AnswerOfTwo.{AnswerOfTwo}
 use Rattle.tree.specs.Record.{Record, records}
 use Rattle.tree.specs.Table.{SpeltTree}
 use Rattle.tree.specs.Judge.{due, refused, accepted, judge}
-use Rattle.promises.specs.Outcome.{sizes, settle, answerOf, outputOf}
+use Rattle.promises.specs.Outcome.{settle, answerOf, outputOf}
 use Rattle.promises.specs.Counted.{CountedOutcome, stopped, settleCounted, countedAnswer, countedOutput}
 use Rattle.promises.proofs.CountedLaws.{CountedSays, counted-settled}
 use Rattle.index.specs.Accepted.{AcceptedIndex}
@@ -28,6 +27,7 @@ use Rattle.row.specs.Search.{countBelow}
 use Rattle.reading.proofs.Verdicts.{Accepting}
 use Rattle.reading.proofs.Listings.{records-in}
 use Rattle.writing.specs.Writing.{written, recordsFrom}
+use Rattle.writing.proofs.Writing.{few-sizes}
 use Rattle.collections.specs.Screen.{isCollectionName, ofCollection, screens, onScreen, screenTests, screenVerdict, screenOutcome}
 use Rattle.collections.proofs.Screens.{screens-suffice, screen-few}
 use Rattle.collections.proofs.Bounds.{from, to}
@@ -90,8 +90,8 @@ module _ (rs : List Record) (n room : ℕ) where
   module _ (exists : n < count) where
     -- 5 is not due, since a screen has few records
     written-screen : written on room ≡ settle (due (screenTests n rs room)) on
-    unfolding written sizes due
-    written-screen = rw (lt-ltb n count exists, le-leb (length on) most (omega (arith, screen-few n rs)))
+    unfolding written due
+    written-screen = rw (lt-ltb n count exists, few-sizes on room (omega (arith, screen-few n rs)))
 
     shown-says : {answer : Answer} {out : List ℕ} {r : AnswerOfTwo}
         → (answer ≡ answerOf (written on room)) × (out ≡ outputOf (written on room) room) → r ≡ withSecond answer count

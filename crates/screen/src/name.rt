@@ -15,7 +15,7 @@ ghost use Rattle.row.specs.Search.{countBelow};
 ghost use Rattle.reading.specs.Positions.{acceptedRecords};
 ghost use Rattle.collections.specs.Screen.{isCollectionName};
 
-// Whether the name is that of a collection: with a slash and the letter a behind it, it is a lawful key.
+// Whether the name is that of a collection: with a slash and the letter a behind it, it is a lawful key then, and only then.
 pub(crate) fn is_collection_name(name: &[u8]) -> bool
     ensures { λ r. ⌜ r ≡ isCollectionName (now (name .entry)) ⌝ }
 {

@@ -155,7 +155,7 @@ mutual
       )
 
 -- ---- the records and the tree of a set that fits
-good-records : (rs : List Record) → All LawfulKey rs → All RightValue rs → All GoodRecord rs
+pub good-records : (rs : List Record) → All LawfulKey rs → All RightValue rs → All GoodRecord rs
 unfolding isValue
 good-records [] h k = tt
 good-records (r ∷ rs) h k =

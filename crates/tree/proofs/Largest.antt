@@ -1,6 +1,5 @@
 -- The table of a set is at most so long: each record takes part in at most 129 pages, one at each layer.
 use Prim.Native.Nat.{ℕ, zero, suc, _+_, _*_, _≤_}
-use mathlib.Core.Path.{_≡_}
 use mathlib.Core.List.{List, [], _∷_, map}
 use native.Mathlib.Omega.{arith}
 use lib.Dec.{eqb}
@@ -13,7 +12,8 @@ use Rattle.page.specs.Page.{linkBytes, gapBytes, entryBytes}
 use Rattle.tree.specs.Tree.{Page, Gap, empty, Placed, topLayer, part, entriesOf, pageOf, gapOf, build, treeOf}
 use Rattle.tree.specs.Record.{Record, spelt, speltUnder, placed}
 use Rattle.tree.specs.Table.{linkOf, rawEntries, table, digestOf, treeOfSet, tableOf}
-use Rattle.tree.proofs.Accept.{top-bounded}
+use Rattle.tree.proofs.Tests.{LawfulKey, RightValue}
+use Rattle.tree.proofs.Accept.{GoodRecord, good-records, top-bounded}
 use Rattle.tree.proofs.Growing.{size, sizeUnder, sizeFrom, size-page, number-size}
 
 -- What a row's records add at most to a tree at layer n: each an entry of 65 bytes, its key and its value, and 49 bytes of page at each layer below.
@@ -68,12 +68,11 @@ build-at-most (suc n) = page-at-most (suc n) (gapOf digestOf (build digestOf n))
 
 -- ---- the table of a set
 -- 6,625 bytes for each record: 49 at each of 128 layers, 65, a key of 256 and a value of 32
-cost-at-most : (n : ℕ) (rs : List Record) → n ≤ 128 → All (λ r. length (r .key) ≤ 256) rs → All (λ r. length (r .val) ≡ 32) rs
-    → cost n (map placed rs) ≤ 6625 * length rs
-cost-at-most n [] h keys values = omega arith
-cost-at-most n (r ∷ rs) h keys values = omega (arith, cost-at-most n rs h (keys .1) (values .1))
+cost-at-most : (n : ℕ) (rs : List Record) → n ≤ 128 → All GoodRecord rs → cost n (map placed rs) ≤ 6625 * length rs
+cost-at-most n [] h good = omega arith
+cost-at-most n (r ∷ rs) h good = omega (arith, good .0 .key, good .0 .val, cost-at-most n rs h (good .1))
 
-pub table-at-most : (rs : List Record) → All (λ r. length (r .key) ≤ 256) rs → All (λ r. length (r .val) ≡ 32) rs
-    → length (tableOf rs) ≤ 49 + 6625 * length rs
+pub table-at-most : (rs : List Record) → All LawfulKey rs → All RightValue rs → length (tableOf rs) ≤ 49 + 6625 * length rs
 unfolding treeOfSet tableOf treeOf
-table-at-most rs keys values = omega (arith, build-at-most (topLayer (map placed rs)) (map placed rs), cost-at-most _ rs (top-bounded rs) keys values)
+table-at-most rs keys values =
+    omega (arith, build-at-most (topLayer (map placed rs)) (map placed rs), cost-at-most _ rs (top-bounded rs) (good-records rs keys values))

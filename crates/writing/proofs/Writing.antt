@@ -104,7 +104,7 @@ module _ (rs : List Record) (room : ℕ) where
   written-many h = rw (lt-leb (length rs) most h)
 
   module _ (few : length rs ≤ most) where
-    few-sizes : due (sizes rs room) ≡ due (roomTest rs room ∷ [])
+    pub few-sizes : due (sizes rs room) ≡ due (roomTest rs room ∷ [])
     unfolding sizes due
     few-sizes = rw (le-leb (length rs) most few)
 
