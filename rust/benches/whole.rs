@@ -1,7 +1,8 @@
-//! The times of all fifteen calls on ordinary records, beside the independent crate and beside
-//! what the calls cannot do without: hashing each page and each key of the lent registers once.
-//! Also the difference of two full registers that are nearly the same, and of two with nothing in
-//! common, and the calls on registers that a careless reader is slow on. Targets stand beside.
+//! The times of all seventeen calls on ordinary records, beside the independent crate and beside
+//! what the calls cannot do without: hashing each page and each key of the lent registers once, or
+//! each page of a lent path. Also the difference of two full registers that are nearly the same,
+//! and of two with nothing in common, and the calls on registers and paths that a careless reader
+//! is slow on. Targets stand beside.
 
 #[path = "../tests/common/mod.rs"]
 mod common;
@@ -12,25 +13,30 @@ mod timing;
 use common::neighbours::Neighbour;
 use common::sets::{collection_of, part, screens_of, set, Kind};
 use common::writes::{length_in, Call};
-use hard::Hard;
+use hard::{Hard, HardPath};
 use independent::Set;
 use std::hint::black_box;
 use std::time::Duration;
-use subject::Subject;
+use subject::{Paths, Subject};
 use timing::best_times_within;
 
 /// The time for the samples of one task. The whole run takes about three minutes.
 const EACH: Duration = Duration::from_millis(600);
 
+/// How many paths of one register are judged at most.
+const MOST_PATHS: usize = 256;
+
 /// A call, by the library and by the independent crate, and the hashing it cannot do without.
 struct Case<'a> {
     name: &'static str,
+    /// How many calls one run of the tasks is counted as.
+    calls: usize,
     library: Box<dyn FnMut() + 'a>,
     independent: Box<dyn FnMut() + 'a>,
     hash_once: Box<dyn FnMut() + 'a>,
 }
 
-/// The times of the three, in seconds.
+/// The times of the three for one call, in seconds.
 struct Times {
     library: f64,
     independent: f64,
@@ -46,6 +52,7 @@ impl<'a> Case<'a> {
     ) -> Case<'a> {
         Case {
             name,
+            calls: 1,
             library: Box::new(move || {
                 black_box(library());
             }),
@@ -80,6 +87,7 @@ impl<'a> Case<'a> {
 
 /// Times all cases in turn.
 fn times(cases: &mut [Case]) -> Vec<Times> {
+    let calls: Vec<f64> = cases.iter().map(|case| case.calls as f64).collect();
     let mut tasks: Vec<&mut dyn FnMut()> = Vec::new();
     for case in cases {
         tasks.push(&mut case.library);
@@ -87,10 +95,10 @@ fn times(cases: &mut [Case]) -> Vec<Times> {
         tasks.push(&mut case.hash_once);
     }
     let times = best_times_within(EACH, &mut tasks);
-    let times = times.chunks(3).map(|times| Times {
-        library: times[0],
-        independent: times[1],
-        hash_once: times[2],
+    let times = times.chunks(3).zip(calls).map(|(times, calls)| Times {
+        library: times[0] / calls,
+        independent: times[1] / calls,
+        hash_once: times[2] / calls,
     });
     times.collect()
 }
@@ -102,6 +110,8 @@ struct Lent {
     without: Subject,
     /// Every second record of the whole, and the others.
     parts: [Subject; 2],
+    /// The paths of keys of the whole.
+    paths: Paths,
 }
 
 impl Lent {
@@ -111,17 +121,23 @@ impl Lent {
         Lent {
             without: subject(part(&whole, |n| n != count / 2)),
             parts: [0, 1].map(|which| subject(part(&whole, |n| n % 2 == which))),
+            paths: Paths::of_set(&whole, MOST_PATHS),
             whole: subject(whole),
         }
     }
 }
 
-/// All fifteen calls. Put is lent the register without the middle record, merge two of half as
+/// All seventeen calls. Put is lent the register without the middle record, merge two of half as
 /// many records, difference the one without the middle record and the whole one, the others the
 /// whole. A run is of all records, and of 8 around the middle one. The screen is the middle one of
-/// the middle record's collection, which is one of four. Slash is asked of each key; it hashes
-/// nothing, and the digest of each key stands beside it.
-fn all_calls<'a>(whole: &'a Subject, lent: &'a [[&'a Subject; 2]; 4]) -> Vec<Case<'a>> {
+/// the middle record's collection, which is one of four. The path is that of the middle key. Slash
+/// is asked of each key; it hashes nothing, and the digest of each key stands beside it. Verify is
+/// asked of the paths of keys all over the register, beside the digests of their pages.
+fn all_calls<'a>(
+    whole: &'a Subject,
+    paths: &'a Paths,
+    lent: &'a [[&'a Subject; 2]; 4],
+) -> Vec<Case<'a>> {
     let register = &whole.register[..];
     let key = whole.middle_key();
     let value = &whole.set[key];
@@ -191,6 +207,16 @@ fn all_calls<'a>(whole: &'a Subject, lent: &'a [[&'a Subject; 2]; 4]) -> Vec<Cas
             Call::difference(&second(difference)),
         ),
         Case::write("screen", &one[..1], Call::screen(collection, screens / 2)),
+        Case::write("path", &one[..1], Call::path(key)),
+        Case {
+            calls: paths.count(),
+            ..Case::new(
+                "verify",
+                || paths.verify(),
+                || paths.independent_verify(),
+                || paths.hash_pages(),
+            )
+        },
     ]
 }
 
@@ -229,15 +255,16 @@ fn full_pairs() -> [(&'static str, [Subject; 2]); 2] {
     ]
 }
 
-/// The most that a call may take at 4,096 records, beside hash-once.
-fn most_beside_hash_once(name: &str) -> Option<f64> {
-    match name {
-        "check" => Some(1.2),
-        "put" | "join" | "remove" => Some(1.5),
-        "merge" => Some(2.2),
-        "screen" => Some(1.3),
-        "difference, 10 apart" => Some(1.3),
-        "difference, nothing shared" => Some(1.78),
+/// The most that a call may take beside hash-once, at 4,096 records; for verify, at any count.
+fn most_beside_hash_once(count: usize, name: &str) -> Option<f64> {
+    match (name, count) {
+        ("verify", _) => Some(1.5),
+        ("check", 4_096) => Some(1.2),
+        ("put" | "join" | "remove", 4_096) => Some(1.5),
+        ("merge", 4_096) => Some(2.2),
+        ("screen" | "path", 4_096) => Some(1.3),
+        ("difference, 10 apart", 4_096) => Some(1.3),
+        ("difference, nothing shared", 4_096) => Some(1.78),
         _ => None,
     }
 }
@@ -263,7 +290,7 @@ fn missed(ratios: &[(f64, Option<f64>)]) -> String {
 fn row(count: usize, name: &str, times: &Times) -> String {
     let beside_hash_once = times.library / times.hash_once;
     let beside_independent = times.library / times.independent;
-    let most = most_beside_hash_once(name).filter(|_| count == 4_096);
+    let most = most_beside_hash_once(count, name);
     format!(
         "{count:>7}  {name:<27} {:>9.2} {:>9.2} {:>12.2} {:>10.2} {:>12.2}{}",
         times.library * 1e6,
@@ -291,7 +318,7 @@ fn print_all_calls(count: usize, pairs: &[(&'static str, [Subject; 2])]) {
         .iter()
         .map(|(name, [first, second])| (*name, [first, second]))
         .collect();
-    let mut cases = all_calls(&made.whole, &lent);
+    let mut cases = all_calls(&made.whole, &made.paths, &lent);
     for (name, lent) in &pairs {
         let call = Call::difference(&lent[1].register);
         cases.push(Case::write(name, lent, call));
@@ -302,11 +329,11 @@ fn print_all_calls(count: usize, pairs: &[(&'static str, [Subject; 2])]) {
     println!();
 }
 
-/// Five calls on a pair of registers: check, put and screen are lent the first, merge and
+/// Six calls on a pair of registers: check, put, screen and path are lent the first, merge and
 /// difference both. An output is just long enough, or as long as the first register where the call
 /// is refused. The screen is of a collection that both the ordinary registers and the accepted hard
-/// ones have.
-fn calls_on_pair<'a>([first, second]: [&'a [u8]; 2]) -> [Box<dyn FnMut() + 'a>; 5] {
+/// ones have, and the path leads into the midst of it.
+fn calls_on_pair<'a>([first, second]: [&'a [u8]; 2]) -> [Box<dyn FnMut() + 'a>; 6] {
     let write = |call: Call| -> Box<dyn FnMut() + 'a> {
         let mut out = vec![0; first.len() + second.len()];
         let length = call.safe(first, &mut out).map_or(first.len(), length_in);
@@ -323,10 +350,11 @@ fn calls_on_pair<'a>([first, second]: [&'a [u8]; 2]) -> [Box<dyn FnMut() + 'a>; 
         write(Call::merge(second)),
         write(Call::difference(second)),
         write(Call::screen(b"app.bsky.feed.post", 20)),
+        write(Call::path(b"app.bsky.feed.post/3jqf000002000")),
     ]
 }
 
-/// Times the five calls on hard registers beside ordinary ones and writes the ratios of the times
+/// Times the six calls on hard registers beside ordinary ones and writes the ratios of the times
 /// for each byte hashed.
 fn print_hard_calls(ordinary: &[Subject; 2]) {
     println!("{:<36} {:>12}  {}", "registers", "bytes hashed", HARD_CALLS);
@@ -347,12 +375,13 @@ fn print_hard_calls(ordinary: &[Subject; 2]) {
             tasks.push(task.as_mut());
         }
         let times = best_times_within(EACH, &mut tasks);
-        // Check, put and screen hash the first register, merge and difference both.
+        // Check, put, screen and path hash the first register, merge and difference both.
         let [usual, all] = pairs.map(|(_, [first, second])| {
-            [first, first, first + second, first + second, first].map(|bytes| bytes as f64)
+            let both = first + second;
+            [first, first, both, both, first, first].map(|bytes| bytes as f64)
         });
-        let ratios: Vec<f64> = (0..5)
-            .map(|n| (times[5 + n] / all[n]) / (times[n] / usual[n]))
+        let ratios: Vec<f64> = (0..6)
+            .map(|n| (times[6 + n] / all[n]) / (times[n] / usual[n]))
             .collect();
         let shown: String = ratios
             .iter()
@@ -371,8 +400,30 @@ fn print_hard_calls(ordinary: &[Subject; 2]) {
     }
 }
 
-/// The heads of the columns of the five calls.
-const HARD_CALLS: &str = "       check         put       merge  difference      screen";
+/// Times verify on hard paths beside ordinary ones and writes the ratios of the times for each
+/// byte.
+fn print_hard_paths(ordinary: &Paths) {
+    println!("{:<36} {:>12}  {:>12}", "path", "bytes", "verify");
+    for hard in HardPath::all() {
+        let (path, key) = (&hard.path[..], &hard.key[..]);
+        let times = best_times_within(
+            EACH,
+            &mut [&mut || ordinary.verify(), &mut || {
+                let _ = black_box(mijdegen::verify(black_box(path), key, &hard.root));
+            }],
+        );
+        let ratio = (times[1] / path.len() as f64) / (times[0] / ordinary.bytes() as f64);
+        println!(
+            "{:<36} {:>12}  {ratio:>12.2}{}",
+            hard.name,
+            path.len(),
+            missed(&[(ratio, Some(MOST_BESIDE_ORDINARY))])
+        );
+    }
+}
+
+/// The heads of the columns of the six calls.
+const HARD_CALLS: &str = "       check         put       merge  difference      screen        path";
 
 fn main() {
     println!("Times of one call in microseconds, best of many samples, all of one count taken in");
@@ -392,11 +443,15 @@ fn main() {
         "of two registers of 4,096 records. At_or_after and before are of the middle key, and the"
     );
     println!(
-        "screen is the middle one of its collection. Slash is one call for each key, beside the"
+        "screen is the middle one of its collection. The path is that of the middle key. Slash is"
     );
     println!(
-        "digest of each key. Outputs are just long enough. What is over its target is marked.\n"
+        "one call for each key, beside the digest of each key. Verify is one call on average, over"
     );
+    println!(
+        "the paths of {MOST_PATHS} keys or fewer, beside the digests of the path's pages. Outputs are"
+    );
+    println!("just long enough. What is over its target is marked.\n");
     println!(
         "{:>7}  {:<27} {:>9} {:>9} {:>12} {:>10} {:>12}",
         "records", "call", "library", "hash-once", "independent", "/hash-once", "/independent"
@@ -408,5 +463,10 @@ fn main() {
 
     println!("Time for each byte hashed, pages and keys, beside that of the same call on two");
     println!("registers of 2,048 ordinary records with nothing in common:\n");
-    print_hard_calls(&Lent::new(4_096).parts);
+    let made = Lent::new(4_096);
+    print_hard_calls(&made.parts);
+
+    println!("\nTime for each byte of a path, beside that of the paths of {MOST_PATHS} keys in a");
+    println!("register of 4,096 ordinary records:\n");
+    print_hard_paths(&made.paths);
 }

@@ -29,7 +29,8 @@
 extern "C" {
 #endif
 
-/* The length in bytes of the longest register, and of the longest input of digest and layer. */
+/* The length in bytes of the longest register, of the longest path, and of the longest input of
+ * digest and layer. */
 #define MIJDEGEN_LONGEST 4194304
 
 /* The length in bytes of the longest key. */
@@ -46,29 +47,29 @@ extern "C" {
 
 /* The numbers of the refusals. */
 enum mijdegen_refusal {
-    /* A lent register, or the input of digest or layer, is longer than 4,194,304 bytes. */
+    /* A lent register or path, or the input of digest or layer, is longer than 4,194,304 bytes. */
     MIJDEGEN_TOO_LONG = 1,
     /* Each byte fits the page form, but the input ends while a byte or linked page is due. */
     MIJDEGEN_ENDS_EARLY = 2,
     /* A byte departs from the page form. */
     MIJDEGEN_DEPARTS = 3,
-    /* Bytes follow the last linked page. */
+    /* Bytes follow the last linked page; in a path, the page where the search ends. */
     MIJDEGEN_BYTES_FOLLOW = 4,
     /* There are more than 4,096 records, given or resulting. */
     MIJDEGEN_TOO_MANY_RECORDS = 5,
     /* A prefix length is not the shared count. */
     MIJDEGEN_WRONG_PREFIX = 6,
-    /* A key in a register or argument breaks the key rule, or a collection argument is the part
-     * before the slash in no lawful key. */
+    /* A key in a register, path or argument breaks the key rule, or a collection argument is the
+     * part before the slash in no lawful key. */
     MIJDEGEN_UNLAWFUL_KEY = 7,
-    /* A key is not greater than the key before it in tree order. */
+    /* A key is not greater than the key before it in tree order; in a path, within its page. */
     MIJDEGEN_KEYS_NOT_RISING = 8,
     /* The pages, their entries and their linked gaps are not those that the rules give for the
      * same keys. */
     MIJDEGEN_WRONG_TREE = 9,
     /* A link's digest is not that of its page. */
     MIJDEGEN_WRONG_DIGEST = 10,
-    /* A value argument is not 32 bytes. */
+    /* A value argument or a root digest is not 32 bytes. */
     MIJDEGEN_VALUE_LENGTH = 11,
     /* The key is absent, for lookup and remove; no record lies at or after the key, for
      * at_or_after, or before it, for before. */
@@ -78,7 +79,10 @@ enum mijdegen_refusal {
     /* The first key is greater than the last. */
     MIJDEGEN_FIRST_AFTER_LAST = 14,
     /* A screen number is at or past the number of screens. */
-    MIJDEGEN_NO_SUCH_SCREEN = 15
+    MIJDEGEN_NO_SUCH_SCREEN = 15,
+    /* The digest of a path's page is not the one due: that of the root, or that in the link by
+     * which the search goes on. */
+    MIJDEGEN_PAGE_NOT_DUE = 16
 };
 
 /* The number of an answer: 0, or one of enum mijdegen_refusal. */
@@ -304,6 +308,50 @@ static inline size_t mijdegen_screen_count(uint64_t answer)
 {
     return mijdegen_second_of_two(answer);
 }
+
+/*
+ * Writes the path of the key: the pages that a search for the key opens, one after the other. The
+ * search opens the root page, goes on by the link of the gap where the key would stand, and ends
+ * when the key is an entry or that gap has no link. The key may be any lawful key, present or not.
+ *
+ * The path stands at the start of out, with zeros after it up to out_len bytes. The number of the
+ * answer is 0 and its value is the length of the path, which is never longer than the register.
+ * Otherwise the answer is the number of mijdegen_check for a refused register; then
+ * MIJDEGEN_UNLAWFUL_KEY where the key breaks the key rule; then MIJDEGEN_NO_ROOM where the path is
+ * longer than out_len. On refusal out is wholly zero.
+ */
+uint64_t mijdegen_path(const uint8_t *reg, size_t reg_len, const uint8_t *key, size_t key_len,
+                       uint8_t *out, size_t out_len);
+
+/*
+ * Says by the pages of a path whether the key is present in the register of a root digest, and with
+ * which value. No register is needed. The path holds just the pages that a search for the key
+ * opens, as mijdegen_path writes them. The root digest is that of the root page, which is the first
+ * page of the register and of every path from it. Where a search ends in the root page, the path is
+ * this page alone; a register of one page is its own root page.
+ *
+ * The number of the answer is 0. Its value is 0 where the key is absent, and else the place in the
+ * path, counted from 0, where the 32 bytes of the key's value begin. Otherwise the answer is
+ * MIJDEGEN_TOO_LONG where the path is longer than MIJDEGEN_LONGEST bytes; then
+ * MIJDEGEN_UNLAWFUL_KEY where the key breaks the key rule; then MIJDEGEN_VALUE_LENGTH where
+ * root_len is not MIJDEGEN_DIGEST_LENGTH. Then each page in turn is judged by these numbers:
+ *
+ *   - MIJDEGEN_ENDS_EARLY where the path ends while a byte of the page is due, or MIJDEGEN_DEPARTS
+ *     where a byte departs from the page form, whichever comes first;
+ *   - MIJDEGEN_WRONG_PREFIX, then MIJDEGEN_UNLAWFUL_KEY, then MIJDEGEN_KEYS_NOT_RISING, by the keys
+ *     of the page;
+ *   - MIJDEGEN_PAGE_NOT_DUE where the digest of the page is not the one due.
+ *
+ * Only then does the search say whether another page is due; of a 130th page the first byte
+ * departs. The answer is MIJDEGEN_BYTES_FOLLOW where bytes are left when the search ends.
+ *
+ * The verdict agrees with mijdegen_lookup in every register of that root digest, provided no two
+ * unequal pages of the path and the register share a digest. With its key and its register's root
+ * digest, every path that mijdegen_path writes is accepted. The time grows with path_len, whatever
+ * register the path is from.
+ */
+uint64_t mijdegen_verify(const uint8_t *path, size_t path_len, const uint8_t *key, size_t key_len,
+                         const uint8_t *root, size_t root_len);
 
 #ifdef __cplusplus
 }

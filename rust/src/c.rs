@@ -96,4 +96,20 @@ extern "C" {
         out: *mut u8,
         out_len: usize,
     ) -> u64;
+    pub fn mijdegen_path(
+        reg: *const u8,
+        reg_len: usize,
+        key: *const u8,
+        key_len: usize,
+        out: *mut u8,
+        out_len: usize,
+    ) -> u64;
+    pub fn mijdegen_verify(
+        path: *const u8,
+        path_len: usize,
+        key: *const u8,
+        key_len: usize,
+        root: *const u8,
+        root_len: usize,
+    ) -> u64;
 }

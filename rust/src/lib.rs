@@ -35,6 +35,13 @@
 //!
 //! Keys are ordered byte by byte; a key stands before every longer key that begins with it.
 //!
+//! # Paths
+//!
+//! The root digest of a register is the [`digest`] of its root page, the first page of its table.
+//! One who holds no more than these 32 bytes can be shown what the register says of a key: [`path`]
+//! writes the pages that a search for the key opens, and [`verify`] says by them whether the key is
+//! present, and with which value.
+//!
 //! # Costs
 //!
 //! Each call that takes a register judges it whole, so its time grows with the register's length:
@@ -42,7 +49,10 @@
 //! [`at_or_after`] or [`before`] costs n such judgements, and n calls of [`lookup`] or [`put`] the
 //! same. A writing call hashes the pages that it writes as well. [`screen`] judges the register
 //! once and writes at most 8 records: going through a collection by its screens costs one judgement
-//! for every 8 records.
+//! for every 8 records. [`path`] costs one judgement too, and copies the pages that it writes.
+//!
+//! [`verify`] takes no register. Its time grows with the length of the path, of which each page is
+//! hashed once, whatever register the path is from.
 //!
 //! [`slash`] and [`split`] take time in proportion to the key, of which they read at most 256 bytes.
 //!
@@ -63,8 +73,8 @@ use core::ops::RangeInclusive;
 
 pub use refusal::Refusal;
 
-/// The length in bytes of the longest register, and of the longest input that [`digest`] and
-/// [`layer`] take. No call that writes a register needs a longer output.
+/// The length in bytes of the longest register, of the longest path, and of the longest input that
+/// [`digest`] and [`layer`] take. No call that writes a register or a path needs a longer output.
 pub const LONGEST: usize = 4_194_304;
 
 /// The length in bytes of the longest key. An output so long has room for each key that [`list`],
@@ -237,9 +247,7 @@ pub fn check(register: &[u8]) -> Result<usize, Refusal> {
 /// assert_eq!(lookup(&register, b"a/"), Err(Refusal::UnlawfulKey));
 /// ```
 pub fn lookup<'a>(register: &'a [u8], key: &[u8]) -> Result<&'a Digest, Refusal> {
-    let place = lookup_place(register, key)?;
-    let value = register.get(place..).and_then(|rest| rest.first_chunk());
-    Ok(value.expect("the library gives a place with 32 bytes of the register"))
+    Ok(value_at(register, lookup_place(register, key)?))
 }
 
 /// Gives the place in the register, counted from 0, where the 32 bytes of the key's value begin.
@@ -789,6 +797,151 @@ pub fn screen(
     Ok(Screen { length, screens })
 }
 
+/// Writes the path of the key: the pages that a search for the key opens, one after the other.
+/// Gives the length of the path.
+///
+/// The search opens the root page, goes on by the link of the gap where the key would stand, and
+/// ends when the key is an entry or that gap has no link. The key may be any lawful key, present or
+/// not: [`verify`] says by the path which of the two it is.
+///
+/// The path stands at the start of the output, with zeros after it. It is never longer than the
+/// register. On refusal the output is zero.
+///
+/// Each call judges the whole register again, as [`lookup`] does.
+///
+/// # Errors
+///
+/// One of the refusals 1 to 10 where [`check`] refuses the register; then
+/// [`Refusal::UnlawfulKey`] where the key breaks the key rule, and [`Refusal::NoRoom`] where the
+/// path is longer than the output.
+///
+/// # Examples
+///
+/// ```
+/// use mijdegen::{path, put, Refusal};
+///
+/// let empty = b"\xa2\x61e\x80\x61l\xf6";
+/// let (mut one, mut two) = ([0; 64], [0; 200]);
+/// put(empty, b"a/b1", &[0x11; 32], &mut one)?;
+/// let length = put(&one, b"a/b2", &[0x22; 32], &mut two)?;
+/// let register = &two[..length];
+///
+/// // The register has two pages: `a/b2` is an entry of the root page, and `a/b1` stands in the
+/// // page of the gap before it. So a search for `a/b1`, or for a lesser key, opens both.
+/// let mut out = [0xaa; 200];
+/// assert_eq!(path(register, b"a/b1", &mut out), Ok(length));
+/// assert_eq!(out[..length], *register);
+/// assert_eq!(path(register, b"a/b0", &mut out), Ok(length));
+///
+/// // A search for `a/b2` ends in the root page. So does one for a greater key, since the gap after
+/// // the entry has no link.
+/// let root = length - one.len();
+/// for key in [b"a/b2", b"a/b3"] {
+///     assert_eq!(path(register, key, &mut out), Ok(root));
+///     assert_eq!(out[..root], register[..root]);
+///     assert!(out[root..].iter().all(|byte| *byte == 0));
+/// }
+///
+/// let refused = path(register, b"a/b1", &mut out[..length - 1]);
+/// assert_eq!(refused, Err(Refusal::NoRoom));
+/// assert!(out[..length - 1].iter().all(|byte| *byte == 0));
+/// assert_eq!(path(register, b"a/", &mut out), Err(Refusal::UnlawfulKey));
+/// # Ok::<(), Refusal>(())
+/// ```
+pub fn path(register: &[u8], key: &[u8], out: &mut [u8]) -> Result<usize, Refusal> {
+    Ok(count(outcome(sys::path(register, key, out))?))
+}
+
+/// What a path says of a key, as [`verify`] gives it.
+#[derive(Clone, Copy, Debug, PartialEq, Eq)]
+pub enum Presence<'a> {
+    /// The key is present with this value, which is a part of the lent path: its 32 bytes begin at
+    /// the place that the C function answers.
+    Present(&'a Digest),
+    /// The key is absent.
+    Absent,
+}
+
+/// Says by the pages of a path whether the key is present in the register of a root digest, and
+/// with which value. No register is needed.
+///
+/// The path holds just the pages that a search for the key opens, as [`path`] writes them. The root
+/// digest comes from one who has the register, before or apart from any path: it is the [`digest`]
+/// of the root page, which is the first page of the register and of every path from it. Where a
+/// search ends in the root page, the path is this page alone; a register of one page is its own
+/// root page.
+///
+/// The verdict agrees with [`lookup`] in every register of that root digest, provided no two
+/// unequal pages of the path and the register share a digest. With its key and its register's root
+/// digest, every path that [`path`] writes is accepted. Both are proved of the library. A path need
+/// not be from an accepted register: layers of keys and the count of records are not judged.
+///
+/// # Errors
+///
+/// [`Refusal::TooLong`] where the path is longer than [`LONGEST`] bytes; then
+/// [`Refusal::UnlawfulKey`] where the key breaks the key rule, and [`Refusal::ValueLength`] where
+/// the root digest is not 32 bytes.
+///
+/// Then each page in turn is judged: [`Refusal::EndsEarly`] where the path ends while a byte of the
+/// page is due, or [`Refusal::Departs`] where a byte departs from the page form, whichever comes
+/// first; then [`Refusal::WrongPrefix`], [`Refusal::UnlawfulKey`] and [`Refusal::KeysNotRising`] by
+/// the keys of the page; and last [`Refusal::PageNotDue`] where the page's digest is not the one
+/// due. Only then does the search say whether another page is due. Of a 130th page the first byte
+/// departs.
+///
+/// [`Refusal::BytesFollow`] where bytes are left when the search ends.
+///
+/// # Examples
+///
+/// ```
+/// use mijdegen::{digest, path, put, verify, Presence, Refusal};
+///
+/// // One who has the register takes the root digest. A search for `a/b2` ends in the root page.
+/// let empty = b"\xa2\x61e\x80\x61l\xf6";
+/// let (mut one, mut two) = ([0; 64], [0; 200]);
+/// put(empty, b"a/b1", &[0x11; 32], &mut one)?;
+/// let length = put(&one, b"a/b2", &[0x22; 32], &mut two)?;
+/// let register = &two[..length];
+/// let mut out = [0; 200];
+/// let length = path(register, b"a/b2", &mut out)?;
+/// let root = digest(&out[..length])?;
+///
+/// // One who holds the root digest alone is sent the path of a key.
+/// let length = path(register, b"a/b1", &mut out)?;
+/// let sent = &out[..length];
+/// let value = [0x11; 32];
+/// assert_eq!(verify(sent, b"a/b1", &root), Ok(Presence::Present(&value)));
+///
+/// // The same pages say that a lesser key is absent. They say nothing of a key behind `a/b2`: the
+/// // search for it ends in the root page, and bytes are left.
+/// assert_eq!(verify(sent, b"a/b0", &root), Ok(Presence::Absent));
+/// assert_eq!(verify(sent, b"a/b3", &root), Err(Refusal::BytesFollow));
+///
+/// // Another value cannot be passed off. The last page ends in the value and 3 bytes more.
+/// let mut forged = sent.to_vec();
+/// forged[length - 4] ^= 1;
+/// assert_eq!(verify(&forged, b"a/b1", &root), Err(Refusal::PageNotDue));
+///
+/// // A register of one page is the path of every key, and its digest is the root digest.
+/// let root = digest(&one)?;
+/// assert_eq!(verify(&one, b"a/b1", &root), Ok(Presence::Present(&value)));
+/// assert_eq!(verify(&one, b"a/b2", &root), Ok(Presence::Absent));
+/// # Ok::<(), Refusal>(())
+/// ```
+pub fn verify<'a>(path: &'a [u8], key: &[u8], root: &[u8]) -> Result<Presence<'a>, Refusal> {
+    Ok(match count(outcome(sys::verify(path, key, root))?) {
+        // No page begins with a value.
+        0 => Presence::Absent,
+        place => Presence::Present(value_at(path, place)),
+    })
+}
+
+/// Gives the value that begins at a place of the library's answer.
+fn value_at(lent: &[u8], place: usize) -> &Digest {
+    let value = lent.get(place..).and_then(|rest| rest.first_chunk());
+    value.expect("the library gives a place with 32 bytes of what it is lent")
+}
+
 /// Gives a value of the library that counts bytes, records or pages of a slice.
 fn count(value: u64) -> usize {
     usize::try_from(value).expect("the library counts no more than a slice holds")
@@ -836,7 +989,7 @@ mod tests {
     }
 
     #[test]
-    fn numbers_1_to_15_give_the_refusal() {
+    fn numbers_1_to_16_give_the_refusal() {
         let refusals = [
             Refusal::TooLong,
             Refusal::EndsEarly,
@@ -853,16 +1006,17 @@ mod tests {
             Refusal::NoRoom,
             Refusal::FirstAfterLast,
             Refusal::NoSuchScreen,
+            Refusal::PageNotDue,
         ];
-        for (answer, refusal) in (1..=15).zip(refusals) {
+        for (answer, refusal) in (1..=16).zip(refusals) {
             assert_eq!(outcome(answer), Err(refusal));
         }
     }
 
     #[test]
-    #[should_panic(expected = "the library answered with the unknown number 16")]
-    fn number_16_panics() {
-        let _ = outcome(16);
+    #[should_panic(expected = "the library answered with the unknown number 17")]
+    fn number_17_panics() {
+        let _ = outcome(17);
     }
 
     #[test]

@@ -6,29 +6,30 @@ use core::fmt;
 #[derive(Clone, Copy, Debug, PartialEq, Eq, Hash)]
 #[repr(u8)]
 pub enum Refusal {
-    /// A lent register, or the input of `digest` or `layer`, is longer than 4,194,304 bytes.
+    /// A lent register or path, or the input of `digest` or `layer`, is longer than 4,194,304
+    /// bytes.
     TooLong = 1,
     /// Each byte fits the page form, but the input ends while a byte or linked page is due.
     EndsEarly = 2,
     /// A byte departs from the page form.
     Departs = 3,
-    /// Bytes follow the last linked page.
+    /// Bytes follow the last linked page; in a path, the page where the search ends.
     BytesFollow = 4,
     /// There are more than 4,096 records, given or resulting.
     TooManyRecords = 5,
     /// A prefix length is not the shared count.
     WrongPrefix = 6,
-    /// A key in a register or argument breaks the key rule, or a collection argument is the part
-    /// before the slash in no lawful key.
+    /// A key in a register, path or argument breaks the key rule, or a collection argument is the
+    /// part before the slash in no lawful key.
     UnlawfulKey = 7,
-    /// A key is not greater than the key before it in tree order.
+    /// A key is not greater than the key before it in tree order; in a path, within its page.
     KeysNotRising = 8,
     /// The pages, their entries and their linked gaps are not those that the rules give for the
     /// same keys.
     WrongTree = 9,
     /// A link's digest is not that of its page.
     WrongDigest = 10,
-    /// A value argument is not 32 bytes.
+    /// A value argument or a root digest is not 32 bytes.
     ValueLength = 11,
     /// The key is absent, for `lookup` and `remove`; no record lies at or after the key, for
     /// `at_or_after`, or before it, for `before`.
@@ -39,15 +40,18 @@ pub enum Refusal {
     FirstAfterLast = 14,
     /// A screen number is at or past the number of screens.
     NoSuchScreen = 15,
+    /// The digest of a path's page is not the one due: that of the root, or that in the link by
+    /// which the search goes on.
+    PageNotDue = 16,
 }
 
 impl Refusal {
-    /// Gives the number of the refusal, from 1 to 15.
+    /// Gives the number of the refusal, from 1 to 16.
     pub const fn number(self) -> u8 {
         self as u8
     }
 
-    /// Gives the refusal with this number, or none where the number is not from 1 to 15.
+    /// Gives the refusal with this number, or none where the number is not from 1 to 16.
     pub const fn from_number(number: u8) -> Option<Refusal> {
         Some(match number {
             1 => Refusal::TooLong,
@@ -65,6 +69,7 @@ impl Refusal {
             13 => Refusal::NoRoom,
             14 => Refusal::FirstAfterLast,
             15 => Refusal::NoSuchScreen,
+            16 => Refusal::PageNotDue,
             _ => return None,
         })
     }
@@ -76,7 +81,9 @@ impl fmt::Display for Refusal {
             Refusal::TooLong => "the input is longer than 4,194,304 bytes",
             Refusal::EndsEarly => "the input ends while a byte or linked page is due",
             Refusal::Departs => "a byte departs from the page form",
-            Refusal::BytesFollow => "bytes follow the last linked page",
+            Refusal::BytesFollow => {
+                "bytes follow the last linked page, or the page where a search ends"
+            }
             Refusal::TooManyRecords => "there are more than 4,096 records",
             Refusal::WrongPrefix => "a prefix length is not the shared count",
             Refusal::UnlawfulKey => {
@@ -85,13 +92,14 @@ impl fmt::Display for Refusal {
             Refusal::KeysNotRising => "a key is not greater than the key before it",
             Refusal::WrongTree => "the pages are not those that the rules give for the same keys",
             Refusal::WrongDigest => "a link's digest is not that of its page",
-            Refusal::ValueLength => "a value is not 32 bytes",
+            Refusal::ValueLength => "a value or a root digest is not 32 bytes",
             Refusal::KeyAbsent => {
                 "the key is absent, or no record lies at or after it, or before it"
             }
             Refusal::NoRoom => "the result is longer than the output, or than 4,194,304 bytes",
             Refusal::FirstAfterLast => "the first key is greater than the last",
             Refusal::NoSuchScreen => "a screen number is at or past the number of screens",
+            Refusal::PageNotDue => "the digest of a path's page is not the one due",
         })
     }
 }

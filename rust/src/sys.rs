@@ -222,3 +222,35 @@ pub(crate) fn screen(register: &[u8], collection: &[u8], n: u64, out: &mut [u8])
         )
     }
 }
+
+/// Writes the pages that a search for the key opens in the register, or zeros on refusal, and gives
+/// the answer that holds the length of the path.
+pub(crate) fn path(register: &[u8], key: &[u8], out: &mut [u8]) -> u64 {
+    // SAFETY: As for `put`.
+    unsafe {
+        mijdegen_path(
+            register.as_ptr(),
+            register.len(),
+            key.as_ptr(),
+            key.len(),
+            out.as_mut_ptr(),
+            out.len(),
+        )
+    }
+}
+
+/// Gives the answer that holds the place of the key's value in the path, or 0 where the path says
+/// that the key is absent.
+pub(crate) fn verify(path: &[u8], key: &[u8], root: &[u8]) -> u64 {
+    // SAFETY: As for `layer`, with three slices. All are only read, so they may share bytes.
+    unsafe {
+        mijdegen_verify(
+            path.as_ptr(),
+            path.len(),
+            key.as_ptr(),
+            key.len(),
+            root.as_ptr(),
+            root.len(),
+        )
+    }
+}

@@ -19,6 +19,7 @@ mod merge;
 mod order;
 mod outputs;
 mod pages;
+mod path;
 mod published;
 mod put;
 mod ranges;
@@ -28,6 +29,7 @@ mod screen;
 mod slash;
 mod stack;
 mod threads;
+mod verify;
 
 /// No file of tests is left out of the program.
 #[test]

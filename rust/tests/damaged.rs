@@ -8,7 +8,7 @@ use crate::common::forge::{
     entry_bytes, faulty_registers, left_chain, link_bytes, link_to, longest_page, one_record,
     page_bytes, right_chain, Entry, Link, Page, EMPTY,
 };
-use crate::common::sets::{set, set_of_layers, short_unlawful_keys, Kind, KINDS};
+use crate::common::sets::{set, set_of_layers, short_unlawful_keys, small_sets, Kind, KINDS};
 use crate::common::Random;
 use independent::{lawful, layer, pages, sha256, table, Set};
 use mijdegen::LONGEST;
@@ -19,19 +19,7 @@ const NULL: &[u8] = &[0xf6];
 
 /// Small registers of one page and of several.
 fn small_registers() -> Vec<Vec<u8>> {
-    let sets = [
-        Set::new(),
-        Set::from([(b"a/b1".to_vec(), VALUE)]),
-        set_of_layers(&[1, 1]),
-        set_of_layers(&[0, 2]),
-        set_of_layers(&[0, 1, 0]),
-        set_of_layers(&[0, 0, 1, 0, 3, 1]),
-        set(Kind::Chains, 3),
-        set(Kind::SharedPrefix, 3),
-        set(Kind::Ordinary, 10),
-        set(Kind::Mixed, 10),
-    ];
-    sets.iter().map(table).collect()
+    small_sets().iter().map(table).collect()
 }
 
 #[test]

@@ -592,7 +592,7 @@ fn every_edit_is_cited() {
 /// The promises say that the proofs have the statements' names in lower case.
 #[test]
 fn every_statement_has_its_proof() {
-    for crate_name in ["promises", "collections"] {
+    for crate_name in ["promises", "collections", "path"] {
         let found = read(&format!("crates/{crate_name}/specs/Promises.antt"));
         let found = statements(&found);
         assert!(!found.is_empty());

@@ -4,10 +4,11 @@
 use crate::common::calls::{compare_lookup, compare_slash, number_of};
 use crate::common::forge::{link_to, Page, EMPTY};
 use crate::common::neighbours::{expect_record, NEIGHBOURS};
+use crate::common::paths::expect_verdict;
 use crate::common::sets::{dot_name_keys, dotted_keys, set, value, Kind, KINDS};
 use crate::common::writes::{expect_refusal, written, Call};
 use crate::common::Random;
-use independent::{lawful, layer, table, Set};
+use independent::{lawful, layer, sha256, table, Set};
 
 const VALUE: [u8; 32] = [0x11; 32];
 
@@ -65,9 +66,11 @@ fn as_arguments() {
                 Call::join(&key, &VALUE),
                 Call::remove(&key),
                 Call::screen(&key, 0),
+                Call::path(&key),
             ] {
                 expect_refusal(&register, &call, register.len() + 500, 7);
             }
+            expect_verdict(&register, &key, &sha256(&register), Err(7));
             cases += 1;
         }
     }

@@ -1,4 +1,4 @@
-//! All fifteen calls on random and damaged registers, against the independent crate.
+//! All seventeen calls on random and damaged registers and paths, against the independent crate.
 //!
 //! The rounds of the gate are always the same. More of them, from another seed:
 //!
@@ -13,6 +13,7 @@ use crate::common::calls::{
 use crate::common::forge::{link_to, Entry, Page};
 use crate::common::lists::{damaged, drawn_value, out_length, Source};
 use crate::common::neighbours::{compare_neighbour, NEIGHBOURS};
+use crate::common::paths::compare_verify;
 use crate::common::sets::{collection_of, part, records_of, set, Kind, KINDS, NEAR_COLLECTIONS};
 use crate::common::writes::{compare_call, length_in, Call};
 use crate::common::Random;
@@ -36,7 +37,7 @@ fn all_calls() {
     assert_ne!(seed, 0, "the seed 0 cannot be taken");
 
     let sources = sources();
-    let mut counts = [0; 16];
+    let mut counts = [0; 17];
     for round in 0..rounds {
         // Each round has a seed of its own, so that it can be run alone.
         let told = Told(seed + round);
@@ -51,7 +52,7 @@ fn all_calls() {
             println!("{} rounds, answers by number: {counts:?}", round + 1);
         }
     }
-    assert_eq!(counts.iter().sum::<u64>(), 15 * rounds);
+    assert_eq!(counts.iter().sum::<u64>(), 17 * rounds);
     println!("{rounds} rounds, answers by number: {counts:?}");
     // Every number is answered, and a good part of the calls are done.
     if rounds >= ROUNDS {
@@ -93,8 +94,8 @@ fn sources() -> Vec<Source> {
     sources
 }
 
-/// Runs all fifteen calls once and counts the numbers that they answer.
-fn run(random: &mut Random, sources: &[Source], counts: &mut [u64; 16]) {
+/// Runs all seventeen calls once and counts the numbers that they answer.
+fn run(random: &mut Random, sources: &[Source], counts: &mut [u64; 17]) {
     let source = random.one_of(sources);
     let set = draw_set(random, source);
     let register = draw_register(random, source, &set);
@@ -146,9 +147,41 @@ fn run(random: &mut Random, sources: &[Source], counts: &mut [u64; 16]) {
         Call::merge(&second),
         Call::difference(&second),
         draw_screen(random, source, &set),
+        Call::path(&source.key(random, &set)),
     ];
     for call in &calls {
         count(compare_write(random, &register, call));
+    }
+
+    let (path, key, root) = draw_path(random, source, &set);
+    let verdict = compare_verify(&path, &key, &root);
+    count(verdict.map(|place| place.unwrap_or(0)));
+}
+
+/// Draws a path with its key and its root digest. Most are right; in the others pages or bytes are
+/// changed, or the key or the root digest is another.
+fn draw_path(random: &mut Random, source: &Source, set: &Set) -> (Vec<u8>, Vec<u8>, Vec<u8>) {
+    let mut key = source.key(random, set);
+    let mut root = Page::of_set(set);
+    if random.below(4) == 0 {
+        change_page(random, &mut root);
+    }
+    let root = root.written();
+    let (mut pages, mut digest) = (root.path(&key), root.digest.to_vec());
+    let n = random.below(pages.len());
+    match random.below(20) {
+        0 => drop(pages.remove(n)),
+        1 => pages.insert(n, pages[random.below(pages.len())]),
+        2 => pages.swap(0, n),
+        3 => key = source.key(random, set),
+        4 => digest[random.below(32)] ^= 1 << random.below(8),
+        5 => digest = drawn_value(random),
+        _ => {}
+    }
+    let path = pages.concat();
+    match random.below(4) {
+        0 => (damaged(random, path), key, digest),
+        _ => (path, key, digest),
     }
 }
 

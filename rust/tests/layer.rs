@@ -97,7 +97,7 @@ fn longest_input() {
 
 #[test]
 fn longer_inputs_are_refused() {
-    expect_long_inputs_refused(|input| layer(input));
+    expect_long_inputs_refused(layer);
 }
 
 #[test]

@@ -2,7 +2,10 @@
 
 use crate::common::calls::number_of;
 use crate::common::forge::{Entry, Page};
-use crate::common::sets::{collections, part, screens_of, set, value, Kind, FULL_KINDS};
+use crate::common::paths::expect_path;
+use crate::common::sets::{
+    collections, just_before, part, screens_of, set, value, Kind, FULL_KINDS,
+};
 use crate::common::writes::{compare_call, expect_refusal, expect_table, expect_table_and, Call};
 use crate::common::Random;
 use independent::{layer, merge_in, table, Set, LONGEST};
@@ -185,6 +188,33 @@ fn screen() {
     assert_eq!(cases, (4 + 1 + 4 + 1) * 3 * 2);
 }
 
+/// The paths of the first key, of one in the middle and of the last, and of the keys just before
+/// them, in 4,095 records and in 4,096; and number 5 of one record more.
+#[test]
+fn path() {
+    let mut cases = 0;
+    for kind in FULL_KINDS {
+        for count in COUNTS {
+            let set = set(kind, count);
+            let register = table(&set);
+            let root = Page::of_set(&set);
+            let root = root.written();
+            for n in [0, count / 2, count - 1] {
+                let key = set.keys().nth(n).expect("a key");
+                let before = just_before(key).expect("a lesser key");
+                for key in [key, &before] {
+                    match count {
+                        0..=4_096 => drop(expect_path(&register, &set, &root, key)),
+                        _ => expect_refusal(&register, &Call::path(key), 300, 5),
+                    }
+                    cases += 1;
+                }
+            }
+        }
+    }
+    assert_eq!(cases, FULL_KINDS.len() * 3 * 6);
+}
+
 /// Keys of 256 bytes that share few of them, of layers 3 and 0 in turn: below each entry of the
 /// root stand two pages without entries and one with a record. A longer table would need higher
 /// layers, and one over the greatest length layers of about 31, which no search finds.
@@ -243,7 +273,17 @@ fn the_longest_tables() {
         expect_refusal(&whole, &call, alone.len() - 1, 13);
         cases += 2;
     }
-    assert_eq!(cases, 2 * 9 + 3 * 3 + 3 * 2);
+    // The root has 2,048 entries, and below it are three pages on the way to a record of layer 0.
+    let root = Page::of_set(&all);
+    let root = root.written();
+    for n in [0, 1, 2_048, 2_049, 4_095] {
+        let key = all.keys().nth(n).expect("a key");
+        let path = expect_path(&whole, &all, &root, key);
+        assert_eq!(root.path(key).len(), if n % 2 == 0 { 1 } else { 4 });
+        expect_refusal(&whole, &Call::path(key), path.len() - 1, 13);
+        cases += 2;
+    }
+    assert_eq!(cases, 2 * 9 + 3 * 3 + 3 * 2 + 5 * 2);
 }
 
 /// Registers of about 13,515 bytes, up to which the library takes short rows, with as many records
@@ -280,6 +320,7 @@ fn as_many_records_as_short_registers_have() {
             Call::merge(&second),
             Call::difference(&second),
             Call::screen(b"a", count as u64 / 16),
+            Call::path(first),
         ] {
             let result = compare_call(&register, &call, 2 * register.len());
             assert!(result.is_ok(), "{count} records");

@@ -313,6 +313,34 @@ fn screen() {
     assert_eq!((counts[0], counts[13]), (2 * 3 * 2, 2 * 3 * 2));
 }
 
+/// Register, key, output: all combinations of faults. The order of verify stands with its tests.
+#[test]
+fn path() {
+    let accepted = [one_record(), table(&full_with_a_first())];
+    let mut cases = 0;
+    for (register, number) in registers(&accepted) {
+        let held = independent::set_of(&register).unwrap_or_default();
+        for (key, unlawful) in [
+            (&b"a/b1"[..], None),
+            (b"a/b0", None),
+            (b"~/~", None),
+            (b"ab", Some(7)),
+            (b"a/..", Some(7)),
+            (b"", Some(7)),
+        ] {
+            let call = Call::path(key);
+            let path = call.result(held.clone()).unwrap_or_default();
+            for out_length in [path.len() + 9, path.len(), path.len().saturating_sub(1), 0] {
+                let no_room = (out_length < path.len()).then_some(13);
+                let due = [number, unlawful, no_room];
+                expect_first(&register, &call, out_length, &due, &path);
+                cases += 1;
+            }
+        }
+    }
+    assert_eq!(cases, (10 + 2) * 6 * 4);
+}
+
 /// The count that results is judged behind what is handed over and before the output.
 #[test]
 fn the_count_between_its_neighbours() {

@@ -1,15 +1,15 @@
 //! Outputs of every length, and the buffers of the writing calls at their limits.
 
 use crate::common::calls::{
-    mijdegen_difference, mijdegen_join, mijdegen_merge, mijdegen_put, mijdegen_remove,
-    mijdegen_screen,
+    mijdegen_difference, mijdegen_join, mijdegen_merge, mijdegen_path, mijdegen_put,
+    mijdegen_remove, mijdegen_screen,
 };
 use crate::common::forge::{one_record, EMPTY};
 use crate::common::neighbours::NEIGHBOURS;
 use crate::common::sets::{collection_of, part, screens_of, set, set_of_layers, Kind};
 use crate::common::writes::{expect_refusal, expect_table_and, Call};
 use independent::{table, Set, LONGEST};
-use mijdegen::{difference, join, merge, put, remove, run, screen, Listed, Refusal, Screen};
+use mijdegen::{difference, join, merge, path, put, remove, run, screen, Listed, Refusal, Screen};
 use std::ptr;
 
 const VALUE: [u8; 32] = [0x11; 32];
@@ -17,9 +17,9 @@ const VALUE: [u8; 32] = [0x11; 32];
 /// A call with its register, its result and the second number of its answer, 0 where there is none.
 type Case = (Vec<u8>, Call, Vec<u8>, usize);
 
-/// Gives six calls on registers of the set. Where a record is new or goes away, it is the n-th, a
-/// run begins there, and the screen is the last of its collection.
-fn calls(set: &Set, n: usize) -> [Case; 6] {
+/// Gives seven calls on registers of the set. Where a record is new or goes away, it is the n-th, a
+/// run begins there, a path leads there, and the screen is the last of its collection.
+fn calls(set: &Set, n: usize) -> [Case; 7] {
     let whole = table(set);
     let others = table(&part(set, |other| other != n));
     let odd = table(&part(set, |n| n % 2 == 1));
@@ -30,13 +30,16 @@ fn calls(set: &Set, n: usize) -> [Case; 6] {
     let screens = screens_of(set, collection_of(key));
     let shown = table(&screens[screens.len() - 1]);
     let screen = Call::screen(collection_of(key), screens.len() as u64 - 1);
+    let path = Call::path(key);
+    let opened = path.result(set.clone()).expect("a lawful key");
     [
         (whole.clone(), Call::run(key, last), rest, 0),
         (others.clone(), Call::put(key, value), whole.clone(), 0),
         (others.clone(), Call::join(key, value), whole.clone(), 0),
         (whole.clone(), Call::remove(key), others, 0),
         (odd, Call::merge(&even), whole.clone(), 0),
-        (whole, screen, shown, screens.len()),
+        (whole.clone(), screen, shown, screens.len()),
+        (whole, path, opened, 0),
     ]
 }
 
@@ -68,7 +71,7 @@ fn every_length_of_the_output() {
         }
     }
     assert_eq!(cases, lengths);
-    assert_eq!(cases, 25_621);
+    assert_eq!(cases, 28_483);
 }
 
 /// Outputs around the greatest length of a table and longer ones: all that follows is zero.
@@ -85,7 +88,7 @@ fn very_long_outputs() {
             }
         }
     }
-    assert_eq!(cases, 2 * 6 * 4 * 2);
+    assert_eq!(cases, 2 * 7 * 4 * 2);
 }
 
 /// The inputs may lie at any address, and other bytes may stand around them.
@@ -99,6 +102,7 @@ fn any_address() {
     let ((key, value), previous, next) = (record(4), record(3), record(5));
     let collection = collection_of(key);
     let shown = table(&screens_of(&set, collection)[0]);
+    let opened = Call::path(key).result(set.clone()).expect("a lawful key");
     let mut cases = 0;
     for offset in 0..16 {
         // 3 bytes that stand around them; the last could be the start of a page.
@@ -130,7 +134,10 @@ fn any_address() {
             };
             assert_eq!(screen(second, collection, 0, &mut out), Ok(found));
             assert!(out == shown, "screen at {offset}");
-            cases += 6;
+            out.resize(opened.len(), 0xaa);
+            assert_eq!(path(second, key, &mut out), Ok(opened.len()));
+            assert!(out == opened, "path at {offset}");
+            cases += 7;
 
             // The record beside the key is the one after it where the key is absent.
             for (call, (beside, value)) in NEIGHBOURS.into_iter().zip([next, previous]) {
@@ -145,7 +152,7 @@ fn any_address() {
             }
         }
     }
-    assert_eq!(cases, 16 * 3 * 8);
+    assert_eq!(cases, 16 * 3 * 9);
 }
 
 /// Lengths whose low 32 bits alone would be those of what is wanted. Most of the memory is never
@@ -188,6 +195,7 @@ fn lengths_over_32_bits() {
     }
     let found = screen(register, b"a", 0, &mut out).map(|found| found.length);
     refused(found, too_long, &mut out);
+    refused(path(register, b"a/b1", &mut out), too_long, &mut out);
 
     long[..4].copy_from_slice(b"a/b1");
     let key = &long[..(1 << 32) + 4];
@@ -206,6 +214,7 @@ fn lengths_over_32_bits() {
     refused(put(&EMPTY, key, &VALUE, &mut out), unlawful, &mut out);
     refused(join(&EMPTY, key, &VALUE, &mut out), unlawful, &mut out);
     refused(remove(&one_record(), key, &mut out), unlawful, &mut out);
+    refused(path(&one_record(), key, &mut out), unlawful, &mut out);
     let collection = &long[..(1 << 32) + 1];
     let found = screen(&one_record(), collection, 0, &mut out).map(|found| found.length);
     refused(found, unlawful, &mut out);
@@ -242,9 +251,11 @@ fn raw_calls_do_not_touch_empty_buffers() {
             assert_eq!(out, [0; 64]);
             out.fill(0xaa);
         }
-        assert_eq!(mijdegen_remove(none, 0, none, 0, no_out, 0), 2);
-        assert_eq!(mijdegen_remove(reg, reg_len, none, 0, no_out, 0), 7);
-        assert_eq!(mijdegen_remove(reg, reg_len, key, 4, no_out, 0), 13);
+        for call in [mijdegen_remove, mijdegen_path] {
+            assert_eq!(call(none, 0, none, 0, no_out, 0), 2);
+            assert_eq!(call(reg, reg_len, none, 0, no_out, 0), 7);
+            assert_eq!(call(reg, reg_len, key, 4, no_out, 0), 13);
+        }
         for call in [mijdegen_merge, mijdegen_difference] {
             assert_eq!(call(none, 0, none, 0, no_out, 0), 2);
             assert_eq!(call(reg, reg_len, none, 0, no_out, 0), 2);

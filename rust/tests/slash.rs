@@ -13,8 +13,8 @@ use crate::common::sets::{
 };
 use crate::common::writes::Call;
 use crate::common::Random;
-use independent::{table, Set, LONGEST_KEY};
-use mijdegen::{slash, split, Refusal, Split, LONGEST};
+use independent::{sha256, table, Set, LONGEST_KEY};
+use mijdegen::{slash, split, verify, Presence, Refusal, Split, LONGEST};
 use std::ptr::{self, NonNull};
 use std::time::{Duration, Instant};
 
@@ -332,6 +332,7 @@ fn the_other_calls_agree() {
             (Call::put(key, &value), 13),
             (Call::join(key, &value), 13),
             (Call::remove(key), 12),
+            (Call::path(key), 13),
         ] {
             let found = call.safe(&EMPTY, &mut []);
             assert_eq!(found.err(), due.or(Some(without_room)), "{key:?}");
@@ -343,6 +344,8 @@ fn the_other_calls_agree() {
             let call = Call::screen(key, 0);
             assert_eq!(call.safe(&EMPTY, &mut []), Err(7), "{key:?}");
         }
+        let verdict = verify(&EMPTY, key, &sha256(&EMPTY)).map_err(Refusal::number);
+        assert_eq!(verdict, due.map_or(Ok(Presence::Absent), Err), "{key:?}");
         let register = table(&Set::from([(key.clone(), value)]));
         assert_eq!(number_of(&register), due.unwrap_or(0), "{key:?}");
         refused += usize::from(due.is_some());

@@ -1,13 +1,16 @@
 //! The calls need little stack: they run in a thread that has 512 KiB of it.
 
-use crate::common::forge::{left_chain, link_to, longest_page, right_chain, Entry, Page, EMPTY};
+use crate::common::forge::{
+    left_chain, link_to, longest_page, right_chain, widest_page, Entry, Page, EMPTY,
+};
 use crate::common::lists::{full_set, List};
 use crate::common::neighbours::{expect_neighbour, Neighbour, NEIGHBOURS};
+use crate::common::paths::{expect_verdict, Verdict};
 use crate::common::sets::{
     collection_of, greatest_key, just_after, just_before, least_key, long_keys_in_turn,
     one_page_below_high, part, screens_of, set, Kind, FULL_KINDS, HIGH, KINDS,
 };
-use crate::common::writes::{expect_outcome, expect_table, Call};
+use crate::common::writes::{expect_outcome, expect_table, length_in, Call};
 use crate::common::Random;
 use independent::table;
 use mijdegen::{check, digest, layer, list, lookup, slash, Refusal, LONGEST, PER_SCREEN};
@@ -72,6 +75,15 @@ fn call_with_small_stack(register: Vec<u8>, key: &[u8], n: usize) -> u8 {
     for n in [0, 100, u64::MAX] {
         write_with_small_stack(&register, Call::screen(collection_of(key), n), room);
     }
+    let path = write_with_small_stack(&register, Call::path(key), room);
+    // The path, where there is one, and the register's bytes in its place.
+    let root = match independent::set_of(&register) {
+        Ok(set) => Page::of_set(&set).written().digest,
+        Err(_) => independent::sha256(&register),
+    };
+    let verdict = verify_with_small_stack(&path, key, &root);
+    assert_eq!(verdict.is_ok(), count.is_ok() && before_slash.is_ok());
+    let _ = verify_with_small_stack(&register, key, &root);
 
     let key = key.to_vec();
     let found = with_small_stack(move || {
@@ -105,13 +117,24 @@ fn neighbour_with_small_stack(register: &[u8], call: Neighbour, key: &[u8]) {
     });
 }
 
-/// Runs the writing call on a small stack.
-fn write_with_small_stack(register: &[u8], call: Call, out_length: usize) {
+/// Runs the writing call on a small stack. Gives what it writes.
+fn write_with_small_stack(register: &[u8], call: Call, out_length: usize) -> Vec<u8> {
     // The expected result is made outside the small stack.
     let mut output = vec![0; out_length];
     let expected = call.independent(register, &mut output);
     let register = register.to_vec();
-    with_small_stack(move || expect_outcome(&register, &call, expected, &output));
+    let mut written = with_small_stack(move || expect_outcome(&register, &call, expected, &output));
+    written.truncate(expected.map_or(0, length_in));
+    written
+}
+
+/// Judges the path on a small stack. Gives the verdict.
+fn verify_with_small_stack(path: &[u8], key: &[u8], root: &[u8; 32]) -> Verdict {
+    // The expected verdict is made outside the small stack.
+    let expected = independent::verify(path, key, root);
+    let (path, key, root) = (path.to_vec(), key.to_vec(), *root);
+    with_small_stack(move || expect_verdict(&path, &key, &root, expected));
+    expected
 }
 
 /// Registers of 4,096 records. Chains of layers are the deepest that are accepted.
@@ -166,6 +189,37 @@ fn the_deepest_inputs() {
     let mut wrong = left_chain(129);
     wrong.left.as_mut().expect("a link").flip[0] = 1;
     assert_eq!(call_with_small_stack(wrong.table(), b"b/b1", 1), 9);
+}
+
+/// Paths of as many pages as can follow one another, of as many entries as a page can have, and of
+/// keys that are long.
+#[test]
+fn the_largest_paths() {
+    for (chain, key) in [
+        (left_chain(129), &b"a/b1"[..]),
+        (right_chain(129, 31), b"chain/128.030"),
+        (widest_page(), b"a/1eke"),
+    ] {
+        let root = chain.written();
+        let path = root.path(key).concat();
+        let verdict = verify_with_small_stack(&path, key, &root.digest);
+        assert!(matches!(verdict, Ok(Some(_))), "{verdict:?}");
+    }
+    // One page too many; and prefixes as long as they can be, behind a root page without entries.
+    let long = [vec![b'k'; 65_535], vec![b'k'; 65_545]];
+    let right = Page::of_keys(&[&long[0], &long[1], b"z/z"]);
+    let mut wrong = Page::of_keys(&[&long[0], &long[1], b"k/z"]);
+    wrong.write_whole(2);
+    for (root, expected) in [
+        (left_chain(130), 3),
+        (Page::above(right), 7),
+        (Page::above(wrong), 6),
+    ] {
+        let root = root.written();
+        let path = root.path(b"a/b1").concat();
+        let verdict = verify_with_small_stack(&path, b"a/b1", &root.digest);
+        assert_eq!(verdict, Err(expected));
+    }
 }
 
 /// Inputs of the greatest length.
@@ -245,15 +299,25 @@ fn the_deepest_results() {
     let (before, after) = (just_before(key), just_after(key));
     let (before, after) = (before.expect("a lesser key"), after.expect("a short key"));
     for (first, last) in [
-        (least_key(), before),
-        (least_key(), key.to_vec()),
-        (key.to_vec(), greatest_key()),
-        (after, greatest_key()),
+        (&least_key()[..], &before[..]),
+        (&least_key(), key),
+        (key, &greatest_key()),
+        (&after, &greatest_key()),
     ] {
-        write_with_small_stack(&parted, Call::run(&first, &last), parted.len());
+        write_with_small_stack(&parted, Call::run(first, last), parted.len());
     }
     for call in NEIGHBOURS {
         neighbour_with_small_stack(&parted, call, key);
+    }
+    // The path of a key beside it has all 17 pages.
+    let root = Page::of_set(&with);
+    let root = root.written();
+    for (sought, pages) in [(key, 1), (&before, 17), (&after, 17)] {
+        let path = write_with_small_stack(&parted, Call::path(sought), parted.len());
+        assert!(path == root.path(sought).concat());
+        assert_eq!(root.path(sought).len(), pages);
+        let verdict = verify_with_small_stack(&path, sought, &root.digest);
+        assert_eq!(verdict.map(|place| place.is_some()), Ok(sought == key));
     }
     // The key's screen has 17 pages one below the other, and those beside it are one page each.
     let collection = collection_of(key);

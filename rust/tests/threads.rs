@@ -1,7 +1,9 @@
 //! Calls at the same time from several threads. A safe function must allow them.
 
-use crate::common::lists::{List, Source};
+use crate::common::forge::Page;
+use crate::common::lists::{damaged, List, Source};
 use crate::common::neighbours::NEIGHBOURS;
+use crate::common::paths::expect_verdict;
 use crate::common::sets::{collections, greatest_key, least_key, screens_of, set, value, Kind};
 use crate::common::writes::{expect_outcome, Call};
 use crate::common::Random;
@@ -76,9 +78,9 @@ fn writing_calls_at_the_same_time() {
 }
 
 #[test]
-fn differences_runs_and_screens_at_the_same_time() {
-    // 4 threads with 40 pairs of registers each, all different, and as many runs and screens. What
-    // is due is known before they run side by side, 20 times each.
+fn differences_runs_screens_and_paths_at_the_same_time() {
+    // 4 threads with 40 pairs of registers each, all different, and as many runs, screens and
+    // paths. What is due is known before they run side by side, 20 times each.
     thread::scope(|scope| {
         for seed in 1..=4 {
             scope.spawn(move || {
@@ -86,13 +88,14 @@ fn differences_runs_and_screens_at_the_same_time() {
                 // Many collections of one record, and one of several screens.
                 let keys = [Kind::Mixed, Kind::SharedPrefix].map(|kind| set(kind, 60).into_keys());
                 let source = Source::new(keys.into_iter().flatten());
-                let cases: Vec<_> = (0..120)
+                let cases: Vec<_> = (0..160)
                     .map(|case| {
                         let held = source.set(&mut random, 60);
-                        let call = match case % 3 {
+                        let call = match case % 4 {
                             0 => Call::difference(&table(&source.set(&mut random, 60))),
                             1 => drawn_run(&mut random, &source),
-                            _ => drawn_screen(&mut random, &held),
+                            2 => drawn_screen(&mut random, &held),
+                            _ => Call::path(&drawn_key(&mut random, &source)),
                         };
                         let first = table(&held);
                         let mut output = vec![0; 40_000];
@@ -111,14 +114,52 @@ fn differences_runs_and_screens_at_the_same_time() {
     });
 }
 
-/// Draws a run between two keys of the source.
-fn drawn_run(random: &mut Random, source: &Source) -> Call {
+#[test]
+fn verdicts_at_the_same_time() {
+    // 4 threads with 80 paths each, all different. Every second one is damaged. What they say is
+    // known before they run side by side, 200 times each.
+    thread::scope(|scope| {
+        for seed in 1..=4 {
+            scope.spawn(move || {
+                let mut random = Random::new(40 + seed);
+                let source = Source::new(set(Kind::Mixed, 60).into_keys());
+                let cases: Vec<_> = (0..80)
+                    .map(|case| {
+                        let root = Page::of_set(&source.set(&mut random, 60));
+                        let root = root.written();
+                        let key = drawn_key(&mut random, &source);
+                        let mut path = root.path(&key).concat();
+                        if case % 2 == 1 {
+                            path = damaged(&mut random, path);
+                        }
+                        let expected = independent::verify(&path, &key, &root.digest);
+                        assert_eq!(expected.is_ok(), case % 2 == 0);
+                        (path, key, root.digest, expected)
+                    })
+                    .collect();
+                for _ in 0..200 {
+                    for (path, key, root, expected) in &cases {
+                        expect_verdict(path, key, root, *expected);
+                    }
+                }
+            });
+        }
+    });
+}
+
+/// Draws a key of the source, or the least or the greatest of all.
+fn drawn_key(random: &mut Random, source: &Source) -> Vec<u8> {
     let mut keys: Vec<_> = source.set(random, 60).into_keys().collect();
     keys.push(least_key());
     keys.push(greatest_key());
-    let mut ends = [random.one_of(&keys), random.one_of(&keys)];
+    random.one_of(&keys).clone()
+}
+
+/// Draws a run between two keys.
+fn drawn_run(random: &mut Random, source: &Source) -> Call {
+    let mut ends = [0; 2].map(|_| drawn_key(random, source));
     ends.sort();
-    Call::run(ends[0], ends[1])
+    Call::run(&ends[0], &ends[1])
 }
 
 /// Draws a screen of one of the set's collections, or of one without records.

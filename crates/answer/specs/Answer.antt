@@ -1,31 +1,32 @@
--- The fifteen numbers, what an answer says, and an answer as one number.
+-- The sixteen numbers, what an answer says, and an answer as one number.
 use Prim.Native.Nat.{ℕ, _+_, _*_, _/_, _%_, _^_}
 use mathlib.Core.Path.{_≡_}
 use mathlib.Core.Bool.{cond}
 use mathlib.Core.List.{List, [], _∷_}
 use lib.Dec.{eqb}
 use Rattle.answer.specs.declared.Refusal.{Refusal}
-use Rattle.answer.specs.declared.Refusal.the-variants.{TooLong, EndsEarly, Departs, BytesFollow, TooManyRecords, WrongPrefix, UnlawfulKey, KeysNotRising, WrongTree, WrongDigest, ValueLength, KeyAbsent, NoRoom, FirstAfterLast, NoSuchScreen}
+use Rattle.answer.specs.declared.Refusal.the-variants.{TooLong, EndsEarly, Departs, BytesFollow, TooManyRecords, WrongPrefix, UnlawfulKey, KeysNotRising, WrongTree, WrongDigest, ValueLength, KeyAbsent, NoRoom, FirstAfterLast, NoSuchScreen, PageNotDue}
 use Rattle.answer.specs.declared.Answer.{Answer}
 use Rattle.answer.specs.declared.Answer.the-variants.{Done, Refused}
 use Rattle.answer.specs.declared.AnswerOfTwo.{AnswerOfTwo}
 use Rattle.answer.specs.declared.AnswerOfTwo.the-variants.{Both, Refused as BothRefused}
 
--- 1: a lent register or a digest's input is longer than 4,194,304 bytes.
+-- 1: a lent register or path or a digest's input is longer than 4,194,304 bytes.
 -- 2: each byte fits the page form, but the input ends while a byte or linked page is due.
 -- 3: a byte departs from the page form.
--- 4: bytes follow the last linked page.
+-- 4: bytes follow the last linked page; in a path, the page where the search ends.
 -- 5: more than 4,096 records, given or resulting.
 -- 6: a prefix length is not the shared count.
--- 7: a key in a register or argument breaks the key rule, or a collection name is the part before the slash in no lawful key.
--- 8: a key is not greater than the key before it in tree order.
+-- 7: a key in a register, path or argument breaks the key rule, or a collection name is the part before the slash in no lawful key.
+-- 8: a key is not greater than the key before it in tree order; in a path, than the key before it in its page.
 -- 9: the pages, their entries and their linked gaps are not those that the rules give for the same keys.
 -- 10: a link's digest is not that of its page.
--- 11: a value argument is not 32 bytes.
+-- 11: a value argument or a root digest is not 32 bytes.
 -- 12: the key is absent, for lookup and remove; no record lies at or after the key, or before it.
--- 13: the result's table (for a single record, the key) is longer than the output, or than 4,194,304 bytes.
+-- 13: the result's table (for a single record the key, for a path its pages) is longer than the output, or than 4,194,304 bytes.
 -- 14: a first key is greater than the last.
 -- 15: a screen number is at or past the number of screens.
+-- 16: the digest of a path's page is not the one due.
 abbrev pub numberOf : Refusal → ℕ
 numberOf TooLong = 1
 numberOf EndsEarly = 2
@@ -42,6 +43,7 @@ numberOf KeyAbsent = 12
 numberOf NoRoom = 13
 numberOf FirstAfterLast = 14
 numberOf NoSuchScreen = 15
+numberOf PageNotDue = 16
 
 -- What an answer says: a refusal its number alone, a call that is done its values.
 pub data Said : Type 0 where

@@ -9,11 +9,10 @@ use lib.ListN.{length, take, drop, length-take, length-drop, length-append}
 use lib.Seq.{take-all, take-add, take-append-le, take-append-add, drop-append-le, drop-append-add}
 use borrow.Author.Tests.{eqb-true, eqb-false, ltb-true, ltb-false}
 use borrow.Table.Steps.{cases}
-use Rattle.bytestring.proofs.Tools.{All, all-split}
 use Rattle.key.proofs.Laws.{less-connected}
 use Rattle.tree.specs.Record.{Record}
 use Rattle.promises.specs.Map.{find}
-use Rattle.promises.proofs.MapLaws.{Before, Above, Sorted, find-nil, find-before, find-here, find-later, find-above}
+use Rattle.promises.proofs.MapLaws.{Above, Below, Sorted, sorted-sides, find-nil, find-before, find-here, find-later, find-above, find-below, find-right}
 use Rattle.promises.proofs.Parts.{all-part}
 use Rattle.collections.specs.Screen.{screens, onScreen}
 use Rattle.collections.specs.Promises.{ScreensSuffice, screensBefore, ScreensInTurn, OnOneScreen}
@@ -78,21 +77,6 @@ found-stands key val (x ∷ m) =
     let w = found-stands key val m (sym (find-later key x m h) ∙ e) in
     record { front = x ∷ w .front; found = w .found; back = w .back; whole = ap (λ (l : List Record). x ∷ l) (w .whole); name = w .name; value = w .value })
 
--- ---- before it and behind it the key finds nothing
-lower-none : (key : List ℕ) (l : List Record) → All (λ x. Before (x .key) key) l → find key l ≡ none
-lower-none key [] a = find-nil key
-lower-none key (x ∷ l) a = find-later key x l (a .0) ∙ lower-none key l (a .1)
-
-here-found : (r : Record) (a b : List Record) → All (λ x. Before (x .key) (r .key)) a → find (r .key) (a ++ (r ∷ b)) ≡ some (r .val)
-here-found r [] b h = find-here (r .key) r b refl
-here-found r (x ∷ a) b h = find-later (r .key) x (a ++ (r ∷ b)) (h .0) ∙ here-found r a b (h .1)
-
-sorted-sides : (a : List Record) (r : Record) (b : List Record) → Sorted (a ++ (r ∷ b)) → All (λ x. Before (x .key) (r .key)) a × Above (r .key) b
-sorted-sides [] r b s = (tt, s .0)
-sorted-sides (x ∷ a) r b s =
-    let w = sorted-sides a r b (s .1) in
-    ((all-split (λ y. Before (x .key) (y .key)) a (r ∷ b) (s .0) .1 .0, w .0), w .1)
-
 -- ---- the screen of a record
 module _ (a : List Record) (r : Record) (b : List Record) (s : Sorted (a ++ (r ∷ b))) where
   abbrev rs : List Record
@@ -101,7 +85,7 @@ module _ (a : List Record) (r : Record) (b : List Record) (s : Sorted (a ++ (r �
   abbrev number : ℕ
   number = length a / 8
 
-  abbrev sides : All (λ x. Before (x .key) (r .key)) a × Above (r .key) b
+  abbrev sides : Below (r .key) a × Above (r .key) b
   sides = sorted-sides a r b s
 
   number-exists : number < screens (length rs)
@@ -115,7 +99,7 @@ module _ (a : List Record) (r : Record) (b : List Record) (s : Sorted (a ++ (r �
       let eight : 8 ≡ length f + suc rest = omega (arith, length-drop (8 * number) a) in
       let on : take 8 (drop (8 * number) rs) ≡ f ++ (r ∷ take rest b) =
       ap (take 8) (drop-append-le (8 * number) a (r ∷ b) (omega arith)) ∙ ap (λ (m : ℕ). take m (f ++ (r ∷ b))) eight ∙ take-append-add f (r ∷ b) (suc rest) in
-      rw on (here-found r f (take rest b) (all-part _ (dropped-part (8 * number) a) (sides .0)))
+      rw on (find-right (r .key) f (r ∷ take rest b) (all-part _ (dropped-part (8 * number) a) (sides .0)) ∙ find-here (r .key) r (take rest b) refl)
 
   earlier-none : (n : ℕ) → n < number → find (r .key) (onScreen n rs) ≡ none
   unfolding onScreen
@@ -123,7 +107,7 @@ module _ (a : List Record) (r : Record) (b : List Record) (s : Sorted (a ++ (r �
       let f : List Record = drop (8 * n) a in
       let on : take 8 (drop (8 * n) rs) ≡ take 8 f =
       ap (take 8) (drop-append-le (8 * n) a (r ∷ b) (omega arith)) ∙ take-append-le 8 f (r ∷ b) (omega (arith, length-drop (8 * n) a)) in
-      rw on (lower-none (r .key) (take 8 f) (all-part _ (taken-part 8 f) (all-part _ (dropped-part (8 * n) a) (sides .0))))
+      rw on (find-below (r .key) (take 8 f) (all-part _ (taken-part 8 f) (all-part _ (dropped-part (8 * n) a) (sides .0))))
 
   later-none : (n : ℕ) → number < n → find (r .key) (onScreen n rs) ≡ none
   unfolding onScreen

@@ -5,38 +5,23 @@ use mathlib.Core.Option.{Option, none, some}
 use mathlib.Core.List.{List, [], _∷_, _++_}
 use native.Mathlib.Omega.{arith}
 use lib.ListN.{length, take, drop, length-append, length-drop}
-use lib.Seq.{take-at, length-take-le}
-use Rattle.bytestring.proofs.Tools.{bytes-drop}
+use lib.Seq.{length-take-le}
 use Rattle.bytestring.specs.Bytes.{Bytes}
-use Rattle.page.specs.Reading.{read, Reader, times}
-use Rattle.page.specs.Number.{numberBytes, array}
-use Rattle.page.specs.Page.{linkHead, linkBytes, gapBytes, RawEntry, entry as entryReader, RawPage, pageBytes}
-use Rattle.page_reader.specs.Place.{pageStart, linkAt, entryAt, EntryHere, PageHere}
+use Rattle.page.specs.Reading.{read, Reader}
+use Rattle.page.specs.Number.{numberBytes}
+use Rattle.page.specs.Page.{linkHead, linkBytes, gapBytes, RawEntry, pageBytes}
+use Rattle.page_reader.specs.Place.{linkAt, EntryHere, PageHere}
 use Rattle.page_reader.specs.declared.EntryAt.{EntryAt}
 use Rattle.page_reader.specs.declared.PageAt.{PageAt}
-use Rattle.page.proofs.Readers.{read-sub, andThen-inv, Spells, step, exactly-spells}
-use Rattle.page.proofs.Numbers.{number-spells}
-use Rattle.page.proofs.Pages.{entry-spells, page-spells}
+use Rattle.page.proofs.Readers.{read-sub, andThen-inv, Spells, step}
+use Rattle.page.proofs.Pages.{entry-spells}
+use Rattle.page_reader.proofs.Spelling.{read-ends, reads-end, pageHere, page-ends, page-part, page-count, page-first}
 use Rattle.tree.specs.Tree.{page, Gap, Entries}
 use Rattle.tree.specs.Record.{Spelt}
 use Rattle.tree.specs.Table.{SpeltTree, linkOf, rawEntries, rawPage, bytesOfPage, table, tableUnder, readUnder, readFrom, readTree}
 use Rattle.tree.specs.Place.{lengthOfEntry, firstEntry}
 use Rattle.tree.proofs.Tables.{tree-spells}
 use Rattle.index.specs.Chain.{onlyLink}
-
--- ---- between two places of a slice
-module _ {A : Type 0} {p : Reader A} {bytes : A → List ℕ} {Fine : A → Type 0} (spells : Spells p bytes Fine)
-    (s : List ℕ) (at to : ℕ) (a : A) (slice : Bytes s) (low : at ≤ length s) (high : to ≤ length s) (reads : p (drop at s) ≡ read a (drop to s)) where
-  whole : drop at s ≡ bytes a ++ drop to s
-  whole = spells .back (drop at s) (drop to s) a (bytes-drop at s slice) reads .0
-
-  pub read-ends : to ≡ at + length (bytes a)
-  read-ends = omega (arith, length-append (bytes a) (drop to s), ap length whole, length-drop at s, length-drop to s)
-
-  pub read-part : bytes a ≡ take (to - at) (drop at s)
-  read-part =
-      let n : length (bytes a) ≡ to - at = omega (arith, read-ends) in
-      sym (ap (take (to - at)) whole ∙ take-at (bytes a) (drop to s) (to - at) n)
 
 -- ---- what the parts of a table are read from
 pub under-link : (tree : Reader SpeltTree) (o : Option (List ℕ)) (l rest : List ℕ) (g : Gap Spelt (List ℕ)) → readUnder tree o l ≡ read g rest → linkOf g ≡ o
@@ -51,13 +36,6 @@ from-entries tree (r ∷ rs) l rest es h =
     andThen-inv (readUnder tree (r .after) l) (λ g u a q.
     andThen-inv (readFrom tree rs u) (λ more v b z.
     read-sub (λ j x. rawEntries j ≡ r ∷ rs) z (rw (under-link tree (r .after) l u g a, from-entries tree rs u v more b))) q) h
-
-pub times-length : {A : Type 0} (p : Reader A) (n : ℕ) (l rest : List ℕ) (xs : List A) → times n p l ≡ read xs rest → length xs ≡ n
-unfolding times
-times-length {A} p zero l rest xs h = read-sub (λ (x : List A) (r : List ℕ). length x ≡ 0) h refl
-times-length {A} p (suc n) l rest xs h =
-    andThen-inv (p l) (λ a u e q.
-    andThen-inv (times n p u) (λ more v b z. read-sub (λ (x : List A) (r : List ℕ). length x ≡ suc n) z (ap suc (times-length p n u v more b))) q) h
 
 -- ---- the table under a gap
 under-spells : (d : ℕ) (o : Option (List ℕ)) → Spells (readUnder (readTree d) o) tableUnder (λ g. Unit {0})
@@ -76,41 +54,24 @@ module _ (s : List ℕ) (at : ℕ) (e : EntryAt) (slice : Bytes s) (here : Entry
   pub entry-ends : (g : Gap Spelt (List ℕ)) → linkOf g ≡ linkAt s (e .link)
       → e .end ≡ at + lengthOfEntry (record { shares = e .shares; remainder = take (e .size) (drop (e .remainder) s); val = take 32 (drop (e .value) s) }) g
   entry-ends g q =
-      rw q (read-ends entry-spells s at (e .end) (entryAt s e) slice (omega (arith, here .whole .ahead, here .whole .within)) (here .whole .within) (here .whole .reads))
+      rw q (reads-end entry-spells slice (here .whole))
 
--- ---- a page
-start-spells : Spells pageStart (λ n. (0xA2 ∷ 0x61 ∷ 0x65 ∷ []) ++ numberBytes array n) (λ _. Unit {0})
-start-spells = record {
-  back = λ s rest n b.
-      step (exactly-spells (0xA2 ∷ 0x61 ∷ 0x65 ∷ [])) s b (λ _ t e _ bt q.
-      let r = number-spells array .back t rest n bt q in
-      (rw (e, r .0), tt));
-}
-
+-- ---- a page of a tree
 module _ (s : List ℕ) (at : ℕ) (p : PageAt) (slice : Bytes s) (here : PageHere s at p)
     (g : Gap Spelt (List ℕ)) (es : Entries Spelt (List ℕ)) (left : linkOf g ≡ linkAt s (p .left)) (row : rawEntries es ≡ here .row .entries) where
-  pub page-ends : p .end ≡ at + length (bytesOfPage (page g es))
+  pub tree-page-ends : p .end ≡ at + length (bytesOfPage (page g es))
   unfolding bytesOfPage rawPage
-  page-ends =
-      rw (left, row) (read-ends page-spells s at (p .end) (record { entries = here .row .entries; left = linkAt s (p .left) }) slice
-      (omega (arith, here .whole .ahead, here .whole .within)) (here .whole .within) (here .whole .reads))
+  tree-page-ends = rw (left, row) (page-ends slice here)
 
-  pub page-part : bytesOfPage (page g es) ≡ take (p .end - at) (drop at s)
+  pub tree-page-part : bytesOfPage (page g es) ≡ take (p .end - at) (drop at s)
   unfolding bytesOfPage rawPage
-  page-part =
-      rw (left, row) (read-part page-spells s at (p .end) (record { entries = here .row .entries; left = linkAt s (p .left) }) slice
-      (omega (arith, here .whole .ahead, here .whole .within)) (here .whole .within) (here .whole .reads))
+  tree-page-part = rw (left, row) (page-part slice here)
 
-  pub page-count : length (rawEntries es) ≡ p .count
-  page-count = ap length row ∙ times-length entryReader (p .count) (drop (p .first) s) (drop (p .past) s) (here .row .entries) (here .row .reads)
+  pub tree-page-count : length (rawEntries es) ≡ p .count
+  tree-page-count = ap length row ∙ page-count slice here
 
-  pub page-first : p .first ≡ at + firstEntry es
-  page-first =
-      rw page-count (omega (
-        arith,
-        read-ends start-spells s at (p .first) (p .count) slice
-            (omega (arith, here .start .ahead, here .start .within)) (here .start .within) (here .start .reads),
-      ))
+  pub tree-page-first : p .first ≡ at + firstEntry es
+  tree-page-first = rw row (page-first slice here)
 
 pub none-read : (l : List RawEntry) → length l ≡ 0 → l ≡ []
 none-read [] h = refl
@@ -129,17 +90,13 @@ link-length d h = omega (arith, length-append linkHead d)
 pub link-page : (s : List ℕ) (at : ℕ) (p : PageAt) → Bytes s → PageHere s at p → p .count ≡ 0 → (p .left ≡ 0 → ⊥)
     → (p .end ≡ at + 47) × (p .left ≡ at + 15) × (take 47 (drop at s) ≡ onlyLink (take 32 (drop (at + 15) s)))
 link-page s at p slice here none-there linked =
-    let raw : RawPage = record { entries = here .row .entries; left = linkAt s (p .left) } in
-    let low : at ≤ length s = omega (arith, here .whole .ahead, here .whole .within) in
-    let ends = read-ends page-spells s at (p .end) raw slice low (here .whole .within) (here .whole .reads) in
-    let part = read-part page-spells s at (p .end) raw slice low (here .whole .within) (here .whole .reads) in
-    let empty-row : here .row .entries ≡ [] = none-read (here .row .entries) (times-length entryReader (p .count) (drop (p .first) s) (drop (p .past) s) (here .row .entries) (here .row .reads) ∙ none-there) in
+    let empty-row : here .row .entries ≡ [] = none-read (here .row .entries) (page-count slice here ∙ none-there) in
     let digest : List ℕ = take 32 (drop (p .left) s) in
     let label : linkAt s (p .left) ≡ some digest = link-some s (p .left) linked in
     let last = here .left (omega (arith, linked)) in
     let size : length digest ≡ 32 = length-take-le 32 (drop (p .left) s) (omega (arith, length-drop (p .left) s, here .whole .within)) in
-    let bytes : pageBytes raw ≡ onlyLink digest = rw (empty-row, label) in
-    let whole : p .end ≡ at + 47 = omega (arith, ends, ap length bytes, link-length digest size) in
+    let bytes : pageBytes (pageHere slice here) ≡ onlyLink digest = rw (empty-row, label) in
+    let whole : p .end ≡ at + 47 = omega (arith, page-ends slice here, ap length bytes, link-length digest size) in
     let place : p .left ≡ at + 15 = omega arith in
     let n : p .end - at ≡ 47 = omega arith in
-    (whole, place, subst (λ (q : ℕ). take 47 (drop at s) ≡ onlyLink (take 32 (drop q s))) place (ap (λ (k : ℕ). take k (drop at s)) (sym n) ∙ sym part ∙ bytes))
+    (whole, place, subst (λ (q : ℕ). take 47 (drop at s) ≡ onlyLink (take 32 (drop q s))) place (ap (λ (k : ℕ). take k (drop at s)) (sym n) ∙ sym (page-part slice here) ∙ bytes))

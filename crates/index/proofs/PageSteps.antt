@@ -35,8 +35,9 @@ use Rattle.index.specs.Walk.{DepthWord, HoldsWords, ChainNoted, Left, ho
 use Rattle.index.specs.declared.walk.WalkState.{WalkState}
 use Rattle.index.specs.declared.walk.Walked.{Walked}
 use Rattle.index.specs.declared.walk.Walked.the-variants.{Whole, Stopped}
+use Rattle.page_reader.proofs.Spelling.{page-count}
 use Rattle.index.proofs.Moves.{moved-seq}
-use Rattle.index.proofs.Lengths.{from-entries, times-length, none-read, page-ends, page-part, page-count, page-first, link-some, link-page}
+use Rattle.index.proofs.Lengths.{from-entries, none-read, tree-page-ends, tree-page-part, tree-page-count, tree-page-first, link-some, link-page}
 use Rattle.index.proofs.PageTests.{page-holding}
 use Rattle.index.proofs.SlotLaws.{slots-items, slots-count}
 use Rattle.index.proofs.ChainRows.{row-kept, labels-end, labels-linked, labels-more, few-chains}
@@ -105,7 +106,7 @@ module _ (s index row last : List ℕ) (level link above : ℕ) (st st₁ : Walk
     count = omega (arith, taken .count);
     chainCount = omega (arith, taken .chains);
     prefixes = λ e. (sym (taken .prefixes) ∙ e, refl);
-    fill = rw (← page-holding s link (p .count) (p .left) g es left (page-count s (st .next) p slice here g es left row)) (taken .fill);
+    fill = rw (← page-holding s link (p .count) (p .left) g es left (tree-page-count s (st .next) p slice here g es left row)) (taken .fill);
     lawful = taken .lawful ∙ sym (and-true (st .lawful));
     rising = λ k _ _. taken .rising ∙ sym (and-true (st .rising));
     latest = λ k _ l. rw (taken .last) l;
@@ -134,7 +135,7 @@ module _ (s index row last : List ℕ) (level link above : ℕ) (st st₁ : Walk
           → st′ .count ≤ most → length later ≤ length (items (page g es)) → ChainWords s w v here-chain
       unfolding rawPage
       chain-words w v a d few small =
-          let ends = page-ends s (st .next) p slice here g es left entries in
+          let ends = tree-page-ends s (st .next) p slice here g es left entries in
           record {
             page = a .page;
             above = a .third ∙ sym number;
@@ -143,7 +144,7 @@ module _ (s index row last : List ℕ) (level link above : ℕ) (st st₁ : Walk
             reads = rw (d .ends, left, entries) (here .whole);
             ends = d .ends ∙ ends;
             within = rw (d .ends) (here .whole .within);
-            bytes = rw (d .ends) (sym (page-part s (st .next) p slice here g es left entries));
+            bytes = rw (d .ends) (sym (tree-page-part s (st .next) p slice here g es left entries));
             from = d .from (omega (arith, counted, taken .count)) ∙ taken .count;
             records = d .records (omega (arith, counted, taken .count)) ∙ omega (arith, counted, taken .count);
             below = d .below (omega (arith, counted, m .chainCount, entered .chains)) ∙ omega (arith, m .chainCount, entered .chains);
@@ -221,13 +222,13 @@ module _ (s index row last : List ℕ) (level link above : ℕ) (st st₁ : Walk
         let es : Entries Spelt (List ℕ) = o .what in
         let (left, below) = gap-ends s index row last level (p .left) st₂ st₃ index₁ row₁ last₁ slice gap in
         let entries : rawEntries es ≡ here .row .entries = from-entries _ (here .row .entries) _ _ es (o .reads) in
-        let ends = page-ends s (st .next) p slice here g es left entries in
+        let ends = tree-page-ends s (st .next) p slice here g es left entries in
         let start : st₂ .next ≡ p .end = entered .next ∙ taken .next in
         let parts = page-slots level (st .next) g es (p .end) (p .first) (st₂ .next) (st₃ .next)
-        (page-first s (st .next) p slice here g es left entries) ends start below in
+        (tree-page-first s (st .next) p slice here g es left entries) ends start below in
         let later : List Chain = chainsUnder (st₂ .count) (st₂ .next) [] g ++ chainsFrom (st₃ .count) (st₃ .next) es in
         let pages = page-chains (st .count) (st .next) labels g es (st₂ .count) (st₃ .count) (st₂ .next) (st₃ .next)
-        (omega (arith, page-count s (st .next) p slice here g es left entries)) (entered .count ∙ taken .count)
+        (omega (arith, tree-page-count s (st .next) p slice here g es left entries)) (entered .count ∙ taken .count)
         (omega (arith, gap .moved .count, slots-count (level + 1) (st₂ .next) g)) (start ∙ ends) below in
         let n = length-append (slotsUnder (level + 1) (st₂ .next) g) (slotsFrom level (st .next) (p .first) (st₃ .next) [] es) in
         let c = length-append (chainsUnder (st₂ .count) (st₂ .next) [] g) (chainsFrom (st₃ .count) (st₃ .next) es) in
@@ -285,7 +286,7 @@ module _ (s index row last : List ℕ) (level link above : ℕ) (st st₁ : Walk
   -- ---- a page without entries
   module _ (none-there : p .count ≡ 0) where
     no-entries : here .row .entries ≡ []
-    no-entries = none-read (here .row .entries) (times-length entryReader (p .count) (drop (p .first) s) (drop (p .past) s) (here .row .entries) (here .row .reads) ∙ none-there)
+    no-entries = none-read (here .row .entries) (page-count slice here ∙ none-there)
 
     -- and without a left link
     pub page-bare : p .left ≡ 0 → PageSays s index row last level link above st (Whole st₁) index row last
@@ -342,7 +343,7 @@ module _ (s index row last : List ℕ) (level link above : ℕ) (st st₁ : Walk
       entries-of = sym no-entries
 
       begins : st₁ .next ≡ st .next + length (bytesOfPage above-it)
-      begins = taken .next ∙ page-ends s (st .next) p slice here (under digest t) end link-of entries-of
+      begins = taken .next ∙ tree-page-ends s (st .next) p slice here (under digest t) end link-of entries-of
 
       on-reads : (rest : List ℕ) → readTree (deepest - (level + 1)) (drop (st₁ .next) s) ≡ read t rest → readTree (deepest - level) (drop (st .next) s) ≡ read above-it rest
       unfolding readUnder readFrom

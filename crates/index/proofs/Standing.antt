@@ -18,7 +18,7 @@ use Rattle.page_reader.specs.declared.EntryAt.{EntryAt}
 use Rattle.page.proofs.Readers.{endsEarly≢read, departs≢read}
 use Rattle.page.proofs.Numbers.{number-reads}
 use Rattle.page.proofs.Pages.{GoodEntry, GoodPage, entry-reads}
-use Rattle.page_keys.specs.Keys.{keyAfter}
+use Rattle.tree.specs.OnePage.{keyAfter}
 use Rattle.tree.specs.Tree.{page, Gap, empty, under, Entries, end, entry}
 use Rattle.tree.specs.Record.{Spelt, recordOf}
 use Rattle.tree.specs.Table.{SpeltTree, linkOf, rawEntries, rawPage, bytesOfPage, table, tableUnder, tableFrom, tableOf, readTree}

@@ -5,7 +5,7 @@ use mathlib.Core.List.{List, []}
 use Rattle.value.specs.Value.{valueLength, valueIn}
 use Rattle.page.specs.Page.{RawEntry, entry}
 use Rattle.page_reader.specs.Place.{Reads, pageStart}
-use Rattle.page_keys.specs.Keys.{keyAfter}
+use Rattle.tree.specs.OnePage.{keyAfter}
 use Rattle.index.specs.Slot.{Slot, keyOf}
 
 -- Entry by entry from one place of a page to another; the first comes after the key j, and the last spells the key k.

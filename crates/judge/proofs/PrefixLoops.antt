@@ -8,7 +8,7 @@ use borrow.Author.Tests.{not-true, not-false}
 use Rattle.judge.proofs.RightChains.{prefixes-none}
 use Rattle.tree.specs.Table.{rawPage}
 use Rattle.word.specs.Word.{pageIn, endIn}
-use Rattle.page_keys.specs.Keys.{prefixesOf}
+use Rattle.tree.specs.OnePage.{prefixesOf}
 use Rattle.index.specs.Chain.{Chain, noChain}
 use Rattle.digests.specs.Digests.{ChainsNoted}
 use Rattle.digests.proofs.ChainReads.{chain-words}

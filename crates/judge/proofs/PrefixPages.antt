@@ -12,7 +12,7 @@ use Rattle.page_reader.specs.declared.Stop.{Stop}
 use Rattle.page_reader.specs.declared.PageAt.{PageAt}
 use Rattle.page_reader.specs.declared.PageRead.{PageRead}
 use Rattle.page_reader.specs.declared.PageRead.the-variants.{Page, PageStop}
-use Rattle.page_keys.specs.Keys.{prefixesOf}
+use Rattle.tree.specs.OnePage.{prefixesOf}
 use Rattle.index.proofs.Standing.{same-read, read-not-stopped}
 use Rattle.judge.specs.Prefixes.{PagePrefixes}
 

@@ -9,7 +9,7 @@ use Rattle.bytestring.specs.Bytes.{equal}
 use Rattle.bytestring.proofs.Tools.{and-inv}
 use Rattle.fips180.specs.Hash.{sha256}
 use Rattle.key.specs.Key.{shared}
-use Rattle.page_keys.specs.Keys.{prefixesOf}
+use Rattle.tree.specs.OnePage.{prefixesOf}
 use Rattle.tree.specs.Tree.{page, Gap, empty, under, Entries, end, entry, itemsUnder}
 use Rattle.tree.specs.Record.{Spelt}
 use Rattle.tree.specs.Table.{SpeltTree, linkOf, rawEntries, rawPage, bytesOfPage, tableUnder}

@@ -5,7 +5,7 @@ use mathlib.Core.Bool.{Bool, true, _&&_}
 use mathlib.Core.List.{List, [], _∷_}
 use Rattle.page.specs.Page.{RawPage, page}
 use Rattle.page_reader.specs.Place.{Reads}
-use Rattle.page_keys.specs.Keys.{prefixesOf}
+use Rattle.tree.specs.OnePage.{prefixesOf}
 use Rattle.tree.specs.Table.{rawPage}
 use Rattle.index.specs.Chain.{Chain}
 use Rattle.digests.specs.Digests.{ChainsNoted}

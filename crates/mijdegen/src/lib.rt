@@ -10,6 +10,8 @@ ghost use lib.ListN.{length};
 ghost use Rattle.promises.specs.Counted.{countedAnswer, countedOutput};
 ghost use Rattle.promises.specs.Difference.{differenceOutcome};
 ghost use Rattle.collections.specs.Screen.{screenOutcome};
+ghost use Rattle.path.specs.Path.{pathOutcome};
+ghost use Rattle.path.specs.Verify.{verifyVerdict, verifyAnswer};
 ghost use Rattle.promises.specs.Range.{atOrAfterOutcome, beforeOutcome, runOutcome};
 ghost use Rattle.promises.specs.Outcome.{checkAnswer, lookupAnswer, listOutcome, listAnswer, listKey, listValue, putOutcome, joinOutcome, removeOutcome, mergeOutcome, answerOf, outputOf};
 
@@ -140,4 +142,19 @@ pub extern "C" fn mijdegen_screen(lent: &[u8], collection: &[u8], n: u64, out: &
     ensures output { λ _. ⌜ now (out .exit) ≡ countedOutput (screenOutcome (now (lent .entry)) (now (collection .entry)) n (length (now (out .entry)))) (length (now (out .entry))) ⌝ }
 {
     answer::encode_two(screen::screen(lent, collection, n, out))
+}
+
+#[no_mangle]
+pub extern "C" fn mijdegen_path(lent: &[u8], sought: &[u8], out: &mut [u8]) -> u64
+    ensures answer { λ r. ⌜ r ≡ encoded (answerOf (pathOutcome (now (lent .entry)) (now (sought .entry)) (length (now (out .entry))))) ⌝ }
+    ensures output { λ _. ⌜ now (out .exit) ≡ outputOf (pathOutcome (now (lent .entry)) (now (sought .entry)) (length (now (out .entry)))) (length (now (out .entry))) ⌝ }
+{
+    answer::encode(path_writer::path(lent, sought, out))
+}
+
+#[no_mangle]
+pub extern "C" fn mijdegen_verify(lent: &[u8], sought: &[u8], root: &[u8]) -> u64
+    ensures { λ r. ⌜ r ≡ encoded (verifyAnswer (verifyVerdict (now (lent .entry)) (now (sought .entry)) (now (root .entry)))) ⌝ }
+{
+    answer::encode(path_reader::verify(lent, sought, root))
 }

@@ -18,7 +18,7 @@ use Rattle.page_reader.specs.declared.Stop.{Stop}
 use Rattle.page_reader.specs.declared.EntryAt.{EntryAt}
 use Rattle.page_reader.specs.declared.EntryRead.{EntryRead}
 use Rattle.page_reader.specs.declared.EntryRead.the-variants.{Entry, EntryStop}
-use Rattle.page_keys.specs.Keys.{prefixesOf}
+use Rattle.tree.specs.OnePage.{prefixesOf}
 use Rattle.page_keys.specs.Buffer.{HoldsKey, Extended, PrefixIs}
 use Rattle.page_keys.proofs.Buffers.{holds-none}
 use Rattle.page_keys.proofs.Entries.{shares-small, row-ends, row-goes-on, row-behind}
@@ -73,12 +73,12 @@ module _ (buffer s : List ℕ) (size shares at n : ℕ) where
     nothing-follows z k w room = rw z (sym (eq-eqb shares _ (sym (shared-stop k shares (longer k w)))))
 
     module _ (some : n ≡ 0 → ⊥) (fits : at + n ≤ length s) where
-      first : take n (drop at s) ≡ getD s at 0 ∷ take (n - 1) (drop (suc at) s)
+      pub first : take n (drop at s) ≡ getD s at 0 ∷ take (n - 1) (drop (suc at) s)
       first =
           let e : n ≡ suc (n - 1) = omega (arith, some) in
           ap (λ (m : ℕ). take m (drop at s)) e ∙ rw (drop-cons s at 0 (omega (arith, some)))
 
-      held : (k : List ℕ) → HoldsKey buffer size k → shares < length buffer → getD k shares 0 ≡ getD buffer shares 0
+      pub held : (k : List ℕ) → HoldsKey buffer size k → shares < length buffer → getD k shares 0 ≡ getD buffer shares 0
       held k w room =
           sym (getD-take (length buffer) k shares 0 room) ∙ ap (λ (l : List ℕ). getD l shares 0) (sym (w .bytes))
           ∙ getD-take size buffer shares 0 (omega (arith, w .size, longer k w))

@@ -15,7 +15,7 @@ ghost use lib.ListN.{length, take, drop};
 ghost use Rattle.limits.specs.Limits.{numbers, longestKey};
 ghost use Rattle.page.specs.Reading.{times, read};
 ghost use Rattle.page.specs.Page.{entry, RawEntry};
-ghost use Rattle.page_keys.specs.Keys.{prefixesOf};
+ghost use Rattle.tree.specs.OnePage.{prefixesOf};
 ghost use Rattle.page_keys.specs.Buffer.{Extended, PrefixIs, LawfulIs, RisesIs};
 
 fn lesser(a: usize, b: usize) -> usize

@@ -210,27 +210,27 @@ module _
             simp (lacking-append, lacking-opened-under g (a .0), lacking-opened-from (recordOf before e .key) es (a .1))
 
 -- ---- two trees, good page by page, of which no two unequal pages share a digest
-among-left : (qs rs : List (List ℕ)) (p : List ℕ) → Among p qs → Among p (qs ++ rs)
+pub among-left : (qs rs : List (List ℕ)) (p : List ℕ) → Among p qs → Among p (qs ++ rs)
 among-left [] rs p i = absurd i
 among-left (q ∷ qs) rs p (inl e) = inl e
 among-left (q ∷ qs) rs p (inr i) = inr (among-left qs rs p i)
 
-among-right : (qs rs : List (List ℕ)) (p : List ℕ) → Among p rs → Among p (qs ++ rs)
+pub among-right : (qs rs : List (List ℕ)) (p : List ℕ) → Among p rs → Among p (qs ++ rs)
 among-right [] rs p i = i
 among-right (q ∷ qs) rs p i = inr (among-right qs rs p i)
 
-abbrev Within : List (List ℕ) → List (List ℕ) → Type 0
+abbrev pub Within : List (List ℕ) → List (List ℕ) → Type 0
 Within ps qs = (p : List ℕ) → Among p ps → Among p qs
 
 module _ (all : List (List ℕ)) where
   -- a page with good fields, and one of those at hand
-  abbrev Fine : SpeltTree → Type 0
+  abbrev pub Fine : SpeltTree → Type 0
   Fine p = GoodPage (rawPage p) × Among (bytesOfPage p) all
 
   mutual
     unfolding pagesOf digestsRight
 
-    linked : (t : SpeltTree) (n : ℕ) → Good n t → digestsRight t ≡ true → Within (pagesOf t) all → Linked Fine t
+    pub linked : (t : SpeltTree) (n : ℕ) → Good n t → digestsRight t ≡ true → Within (pagesOf t) all → Linked Fine t
     linked (page g es) zero a d w = absurd a
     linked (page g es) (suc n) a d w =
         let k = and-inv (digestsRightUnder g) d in (

@@ -3,11 +3,11 @@ use Prim.Native.Nat.{ℕ, zero, suc, _+_, _≤_, _<_}
 use mathlib.Core.Path.{_≡_, refl, sym, ap, _∙_}
 use mathlib.Core.Bool.{true, false, false≢true}
 use mathlib.Core.Option.{Option, none, some, Option·none-ne-some, Option·some-injective}
-use mathlib.Core.List.{List, [], _∷_}
+use mathlib.Core.List.{List, [], _∷_, _++_, append-nil}
 use native.Mathlib.Omega.{arith}
 use lib.ListN.{length, getD}
 use borrow.Table.Steps.{cases}
-use Rattle.bytestring.proofs.Tools.{and-inv, and-both, All}
+use Rattle.bytestring.proofs.Tools.{and-inv, and-both, All, all-split, all-weaken}
 use Rattle.key.specs.Key.{less}
 use Rattle.key.proofs.Laws.{less-irreflexive, less-transitive, less-connected, is-false, less-asymmetric, less-same}
 use Rattle.value.specs.Value.{isValue}
@@ -53,6 +53,25 @@ rising-sorted (x ∷ y ∷ m) h =
     let k = and-inv (less (x .key) (y .key)) h in
     let s = rising-sorted (y ∷ m) (k .1) in
     ((k .0, above-before (x .key) (y .key) m (k .0) (s .0)), s)
+
+-- a sorted list in two parts, and on both sides of a record
+pub sorted-split : (a b : List Record) → Sorted (a ++ b) → Sorted a × Sorted b × All (λ x. Above (x .key) b) a
+sorted-split [] b s = (tt, s, tt)
+sorted-split (x ∷ a) b s =
+    let h = all-split (λ y. Before (x .key) (y .key)) a b (s .0) in
+    let t = sorted-split a b (s .1) in
+    ((h .0, t .0), t .1, (h .1, t .2))
+
+abbrev pub Below : List ℕ → List Record → Type 0
+Below k m = All (λ (x : Record). Before (x .key) k) m
+
+pub below-before : (a b : List ℕ) (m : List Record) → Before a b → Below a m → Below b m
+below-before a b m h l = all-weaken _ _ (λ x k. less-transitive (x .key) a b k h) m l
+
+pub sorted-sides : (a : List Record) (r : Record) (b : List Record) → Sorted (a ++ (r ∷ b)) → Below (r .key) a × Above (r .key) b
+sorted-sides a r b s =
+    let w = sorted-split a (r ∷ b) s in
+    (all-weaken _ _ (λ x h. h .0) a (w .2), w .1 .0)
 
 -- ---- the greater of two values
 -- it stands before neither of them
@@ -108,6 +127,22 @@ module _ (k : List ℕ) (x : Record) (m : List Record) where
 pub find-above : (k : List ℕ) (m : List Record) → Above k m → find k m ≡ none
 find-above k [] a = find-nil k
 find-above k (x ∷ m) a = find-before k x m (a .0)
+
+-- in two lists, one after the other
+pub find-left : (k : List ℕ) (a b : List Record) → Above k b → find k (a ++ b) ≡ find k a
+find-left k [] b h = find-above k b h ∙ sym (find-nil k)
+find-left k (x ∷ a) b h =
+    less-connected k (x .key)
+    (λ l. find-before k x (a ++ b) l ∙ sym (find-before k x a l))
+    (λ l. find-here k x (a ++ b) l ∙ sym (find-here k x a l))
+    (λ l. find-later k x (a ++ b) l ∙ find-left k a b h ∙ sym (find-later k x a l))
+
+pub find-right : (k : List ℕ) (a b : List Record) → Below k a → find k (a ++ b) ≡ find k b
+find-right k [] b h = refl
+find-right k (x ∷ a) b h = find-later k x (a ++ b) (h .0) ∙ find-right k a b (h .1)
+
+pub find-below : (k : List ℕ) (m : List Record) → Below k m → find k m ≡ none
+find-below k m h = ap (find k) (sym (append-nil m)) ∙ find-right k m [] h ∙ find-nil k
 
 -- ---- the n-th record
 pub nth-there : (n : ℕ) (m : List Record) (r : Record) → n < length m → nth n m ≡ some (getD m n r)

@@ -9,15 +9,16 @@ use lib.ListN.{length, length-append}
 use borrow.Table.Steps.{cases}
 use Rattle.bytestring.proofs.Equal.{equal-refl, equal-cases}
 use Rattle.bytestring.specs.Bytes.{equal}
-use Rattle.bytestring.proofs.Tools.{All, all-split, all-weaken}
+use Rattle.bytestring.proofs.Tools.{All, all-weaken}
 use Rattle.key.proofs.Laws.{less-connected}
 use Rattle.tree.specs.Tree.{page, Gap, empty, under, Entries, end, entry, items, itemsUnder, itemsFrom, pages, pagesUnder as countUnder, pagesFrom as countFrom}
 use Rattle.tree.specs.Record.{Record, Spelt, recordOf, keyed, keyedUnder, keyedFrom, records}
-use Rattle.tree.specs.Table.{SpeltTree, bytesOfPage}
+use Rattle.tree.specs.Table.{SpeltTree, rawEntries, rawPage, bytesOfPage}
+use Rattle.tree.specs.OnePage.{recordsIn}
 use Rattle.promises.specs.Map.{find}
-use Rattle.promises.specs.Pages.{pagesOf, known, PageInTree, located, locatedUnder, locatedFrom, noneKnown, isOpened, openedAmong, openedPages, linkedUnder, linkedFrom, linkedPages, inEntries, inPage, putAll, inPages}
+use Rattle.promises.specs.Pages.{pagesOf, known, PageInTree, located, locatedUnder, locatedFrom, noneKnown, isOpened, openedAmong, openedPages, linkedUnder, linkedFrom, linkedPages, inPage, putAll, inPages}
 use Rattle.promises.specs.Promises.{openedOfEach, OpenedByDescent, AllOpened, NoneOpened}
-use Rattle.promises.proofs.MapLaws.{Before, before-other, Above, Sorted, find-nil, find-here, find-before, find-later, above-before, sorted-ext, sorted-put, find-put-same, find-put-other}
+use Rattle.promises.proofs.MapLaws.{before-other, Above, Sorted, find-nil, find-here, find-before, find-later, above-before, sorted-ext, sorted-put, find-put-same, find-put-other, sorted-split}
 use Rattle.promises.proofs.Parts.{all-part, sorted-part}
 
 -- ---- by descent
@@ -175,8 +176,8 @@ module _ (first : List (List ℕ)) where
         Sublistᴰ·cons-cons refl (Sublistᴰ·append (opened-part-under g) (opened-part-from (recordOf before e .key) es))
 
 -- the records in a page itself are a part of those in and under it
-entries-part : (before : List ℕ) (es : Entries Spelt (List ℕ)) → Sublistᴰ (inEntries before es) (itemsFrom (keyedFrom before es))
-unfolding inEntries keyed items
+pub entries-part : (before : List ℕ) (es : Entries Spelt (List ℕ)) → Sublistᴰ (recordsIn before (rawEntries es)) (itemsFrom (keyedFrom before es))
+unfolding recordsIn rawEntries keyed items
 entries-part before end = Sublistᴰ·slnil
 entries-part before (entry e g es) =
     Sublistᴰ·cons-cons refl (Sublistᴰ·append (Sublistᴰ·nil-sublist (itemsUnder (keyedUnder g))) (entries-part (recordOf before e .key) es))
@@ -241,31 +242,24 @@ module _ (k : List ℕ) where
   find-in-pages [] = find-nil k
   find-in-pages (p ∷ ps) = rw (find-put-all (inPage p) (inPages ps), find-in-pages ps)
 
-sorted-split : (a b : List Record) → Sorted (a ++ b) → Sorted a × Sorted b × All (λ x. Above (x .key) b) a
-sorted-split [] b s = (tt, s, tt)
-sorted-split (x ∷ a) b s =
-    let h = all-split (λ y. Before (x .key) (y .key)) a b (s .0) in
-    let t = sorted-split a b (s .1) in
-    ((h .0, t .0), t .1, (h .1, t .2))
-
 module _ (first : List (List ℕ)) (k : List ℕ) where
   -- a gap and the entries after it: table order meets the entries first, key order what is under the gap
   after-gap : (g : Gap Spelt (List ℕ)) (before : List ℕ) (es : Entries Spelt (List ℕ))
       → ((other : Option (List ℕ)) → seekPages k (descentUnder first g) other ≡ seek k (openedUnder first g) other)
-      → ((other : Option (List ℕ)) → seek k (inEntries before es) (seekPages k (descentFrom first es) other) ≡ seek k (openedFrom first before es) other)
+      → ((other : Option (List ℕ)) → seek k (recordsIn before (rawEntries es)) (seekPages k (descentFrom first es) other) ≡ seek k (openedFrom first before es) other)
       → All (λ x. Above (x .key) (itemsFrom (keyedFrom before es))) (itemsUnder (keyedUnder g)) → (other : Option (List ℕ))
-      → seek k (inEntries before es) (seekPages k (descentUnder first g ++ descentFrom first es) other)
+      → seek k (recordsIn before (rawEntries es)) (seekPages k (descentUnder first g ++ descentFrom first es) other)
       ≡ seek k (openedUnder first g ++ openedFrom first before es) other
   after-gap g before es gap rest apart other =
       let later = seekPages k (descentFrom first es) other in
       let below = all-weaken _ _ (λ x a. all-part _ (entries-part before es) a) (openedUnder first g) (all-part _ (opened-part-under first g) apart) in
       rw (seek-pages-append k (descentUnder first g) (descentFrom first es) other, gap later)
-      (sym (seek-swap k (openedUnder first g) (inEntries before es) later below)
+      (sym (seek-swap k (openedUnder first g) (recordsIn before (rawEntries es)) later below)
       ∙ ap (seek k (openedUnder first g)) (rest other)
       ∙ sym (seek-append k (openedUnder first g) (openedFrom first before es) other))
 
   mutual
-    unfolding descent openedRecords seekPages inPage inEntries keyed items seek
+    unfolding descent openedRecords seekPages inPage recordsIn rawPage rawEntries keyed items seek
 
     pages-seek : (t : SpeltTree) → Sorted (records t) → (other : Option (List ℕ)) → seekPages k (descent first t) other ≡ seek k (openedRecords first t) other
     pages-seek (page g es) s other =
@@ -274,7 +268,7 @@ module _ (first : List (List ℕ)) (k : List ℕ) where
         (λ e. rw e (after-gap g [] es (λ o. under-seek g (h .0) o) (λ o. from-seek [] es (h .1) o) (h .2) other))
 
     from-seek : (before : List ℕ) (es : Entries Spelt (List ℕ)) → Sorted (itemsFrom (keyedFrom before es)) → (other : Option (List ℕ))
-        → seek k (inEntries before es) (seekPages k (descentFrom first es) other) ≡ seek k (openedFrom first before es) other
+        → seek k (recordsIn before (rawEntries es)) (seekPages k (descentFrom first es) other) ≡ seek k (openedFrom first before es) other
     from-seek before end s other = refl
     from-seek before (entry e g es) s other =
         let r : Record = recordOf before e in

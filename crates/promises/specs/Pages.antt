@@ -5,8 +5,9 @@ use mathlib.Core.List.{List, [], _∷_, _++_}
 use Rattle.bytestring.specs.Bytes.{equal}
 use Rattle.fips180.specs.Hash.{sha256}
 use Rattle.tree.specs.Tree.{page, Gap, empty, under, Entries, end, entry}
-use Rattle.tree.specs.Record.{Record, Spelt, recordOf}
-use Rattle.tree.specs.Table.{SpeltTree, bytesOfPage}
+use Rattle.tree.specs.Record.{Record, Spelt}
+use Rattle.tree.specs.Table.{SpeltTree, rawPage, bytesOfPage}
+use Rattle.tree.specs.OnePage.{recordsIn}
 use Rattle.promises.specs.Map.{put}
 
 -- The bytes of a register's pages, in table order.
@@ -77,13 +78,9 @@ linkedFrom (entry e g es) = linkedUnder g ++ linkedFrom es
 unfoldable pub linkedPages : SpeltTree → List SpeltTree
 linkedPages (page g es) = linkedUnder g ++ linkedFrom es
 
--- The records in a page itself, without those under its links; `before` is the key before in the page.
-unfoldable pub inEntries : List ℕ → Entries Spelt (List ℕ) → List Record
-inEntries before end = []
-inEntries before (entry e g es) = recordOf before e ∷ inEntries (recordOf before e .key) es
-
+-- The records in a page itself, without those under its links.
 unfoldable pub inPage : SpeltTree → List Record
-inPage (page g es) = inEntries [] es
+inPage p = recordsIn [] (rawPage p .entries)
 
 -- The records in these pages, in key order: each is put into its place.
 unfoldable pub putAll : List Record → List Record → List Record

@@ -148,9 +148,11 @@ abbrev pub Among : List ℕ → List (List ℕ) → Type 0
 Among p [] = ⊥
 Among p (q ∷ qs) = (p ≡ q) ⊎ Among p qs
 
+abbrev pub DigestsApart : List (List ℕ) → Type 0
+DigestsApart ps = (p q : List ℕ) → Among p ps → Among q ps → sha256 p ≡ sha256 q → p ≡ q
+
 abbrev pub NoSharedDigest : SpeltTree → SpeltTree → Type 0
-NoSharedDigest t u =
-    (p q : List ℕ) → Among p (pagesOf t ++ pagesOf u) → Among q (pagesOf t ++ pagesOf u) → sha256 p ≡ sha256 q → p ≡ q
+NoSharedDigest t u = DigestsApart (pagesOf t ++ pagesOf u)
 
 -- The difference of two accepted registers, unless a number is due, answers the number of opened pages and the register of exactly those
 -- records of the second, key and value, that the first lacks, provided no two unequal pages of the two share a digest.

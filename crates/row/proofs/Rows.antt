@@ -15,7 +15,7 @@ use Rattle.word.specs.Word.{pageIn, entryIn, layerIn, fromSecond, isFirst, seco
 use Rattle.key.specs.Key.{lawful}
 use Rattle.page.specs.Page.{RawEntry, entry}
 use Rattle.page_reader.specs.Place.{Reads}
-use Rattle.page_keys.specs.Keys.{keyAfter}
+use Rattle.tree.specs.OnePage.{keyAfter}
 use Rattle.tree.specs.Record.{records}
 use Rattle.tree.specs.Table.{SpeltTree}
 use Rattle.tree.specs.Judge.{accepted, judge}

@@ -12,7 +12,7 @@ use Rattle.key.specs.Layer.{layerOf}
 use Rattle.page.specs.Reading.{Read, read, endsEarly, departs}
 use Rattle.page.specs.Page.{RawEntry, entry}
 use Rattle.page_reader.specs.Place.{pageStart}
-use Rattle.page_keys.specs.Keys.{keyAfter}
+use Rattle.tree.specs.OnePage.{keyAfter}
 use Rattle.tree.specs.Record.{Record}
 use Rattle.index.specs.Slot.{Slot, keyOf}
 use Rattle.index.specs.Standing.{SlotAt}

@@ -53,21 +53,21 @@ module _ (s : List ℕ) where
   stand-append (p ∷ ps) qs (r ∷ rs) us h k = (h .0, stand-append ps qs rs us (h .1) k)
 
   -- ---- the bytes l stand at a place in s
-  abbrev At : ℕ → List ℕ → Type 0
+  abbrev pub At : ℕ → List ℕ → Type 0
   At at l = (rest : List ℕ) × (drop at s ≡ l ++ rest)
 
-  at-left : (at : ℕ) (l m : List ℕ) → At at (l ++ m) → At at l
+  pub at-left : (at : ℕ) (l m : List ℕ) → At at (l ++ m) → At at l
   at-left at l m h = (m ++ h .0, h .1 ∙ append-assoc l m (h .0))
 
-  at-right : (at : ℕ) (l m : List ℕ) → At at (l ++ m) → At (at + length l) m
+  pub at-right : (at : ℕ) (l m : List ℕ) → At at (l ++ m) → At (at + length l) m
   at-right at l m h = (h .0, sym (drop-drop (length l) at s) ∙ rw (h .1, append-assoc l m (h .0)) (drop-append-seam l (m ++ h .0)))
 
-  at-both : (at : ℕ) (l m k : List ℕ) → At at (l ++ (m ++ k)) → At (at + (length l + length m)) k
+  pub at-both : (at : ℕ) (l m k : List ℕ) → At at (l ++ (m ++ k)) → At (at + (length l + length m)) k
   at-both at l m k h =
       let e : at + (length l + length m) ≡ at + length l + length m = omega arith in
       rw e (at-right (at + length l) m k (at-right at l (m ++ k) h))
 
-  value-at : (at : ℕ) (e : RawEntry) → GoodEntry e → At at (entryBytes e) → take 32 (drop (at + length (entryBytes e) - 32) s) ≡ e .val
+  pub value-at : (at : ℕ) (e : RawEntry) → GoodEntry e → At at (entryBytes e) → take 32 (drop (at + length (entryBytes e) - 32) s) ≡ e .val
   value-at at e g h =
       let n : at + length (entryBytes e) - 32 ≡ at + length (front e) =
       rw (entry-front e) (omega (arith, length-append (front e) (e .val), g .val)) in

@@ -3,3 +3,4 @@ pub mod Record
 pub mod Table
 pub mod Judge
 pub mod Place
+pub mod OnePage

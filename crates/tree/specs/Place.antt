@@ -3,19 +3,18 @@ use Prim.Native.Nat.{ℕ, _+_, _-_}
 use mathlib.Core.List.{List, [], _∷_, _++_}
 use lib.ListN.{length}
 use Rattle.value.specs.Value.{valueLength}
-use Rattle.page.specs.Number.{array, numberBytes}
 use Rattle.page.specs.Page.{entryBytes}
 use Rattle.tree.specs.Tree.{page, Gap, empty, under, Entries, end, entry}
 use Rattle.tree.specs.Record.{Spelt}
 use Rattle.tree.specs.Table.{SpeltTree, linkOf, rawEntries, bytesOfPage, tableUnder}
+use Rattle.tree.specs.OnePage.{entriesStart}
 
 -- An entry's bytes end with its value's.
 abbrev pub lengthOfEntry : Spelt → Gap Spelt (List ℕ) → ℕ
 lengthOfEntry e g = length (entryBytes (record { shares = e .shares; remainder = e .remainder; after = linkOf g; val = e .val }))
 
--- The first entry follows the page's first three bytes and its count of entries.
 abbrev pub firstEntry : Entries Spelt (List ℕ) → ℕ
-firstEntry es = 3 + length (numberBytes array (length (rawEntries es)))
+firstEntry es = entriesStart (rawEntries es)
 
 -- The places of the values in a tree whose table begins at `at`.
 unfoldable mutual

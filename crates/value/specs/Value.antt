@@ -9,6 +9,9 @@ use lib.Dec.{eqb}
 abbrev pub digestLength : ℕ
 digestLength = 32
 
+unfoldable pub isDigest : List ℕ → Bool
+isDigest d = eqb (length d) digestLength
+
 abbrev pub digestIn : List ℕ → ℕ → List ℕ
 digestIn s place = take digestLength (drop place s)
 

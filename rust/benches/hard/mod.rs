@@ -1,9 +1,9 @@
 //! Pairs of registers on which a careless reader is slow: many pages, deep pages, keys that share
-//! most of their bytes.
+//! most of their bytes. Also paths of this kind.
 
-use crate::common::forge::{link_to, Entry, Page};
-use crate::common::sets::set_of_layers;
-use independent::{pages, table, Set};
+use crate::common::forge::{link_to, right_chain, widest_page, Entry, Page};
+use crate::common::sets::{numbered_keys, set, set_of_layers, Kind};
+use independent::{pages, sha256, table, Set};
 
 /// Two registers that the calls are timed on.
 pub struct Hard {
@@ -68,14 +68,7 @@ fn many_pages() -> Hard {
 /// One page of 60,000 keys of 256 bytes, of which each shares 252 or more with the one before.
 fn shared_bytes() -> Hard {
     let start = [&[b'a'; 100][..], b"/", &[b'b'; 151]].concat();
-    let digit = |n: usize| b"0123456789abcdefghijklmnopqrstuvwxyz"[n % 36];
-    let keys: Vec<Vec<u8>> = (0..60_000)
-        .map(|n| {
-            let end = [n / 36 / 36 / 36, n / 36 / 36, n / 36, n].map(digit);
-            [&start[..], &end].concat()
-        })
-        .collect();
-    let page = Page::of_keys(&keys.iter().map(Vec::as_slice).collect::<Vec<_>>());
+    let page = Page::of_all(&numbered_keys(&start, 60_000));
     Hard::refused("60,000 keys that share 252 bytes", &page, 5)
 }
 
@@ -111,4 +104,126 @@ fn deep_pages() -> Hard {
     let mut root = Page::of_keys(&[b"b/b1"]);
     root.left = link_to((1..40).fold(below, |page, _| Page::above(page)));
     Hard::refused("4,095 keys in pages 40 levels deep", &root, 9)
+}
+
+/// A path that verify is timed on.
+pub struct HardPath {
+    pub name: &'static str,
+    pub path: Vec<u8>,
+    pub key: Vec<u8>,
+    pub root: [u8; 32],
+}
+
+impl HardPath {
+    /// Gives all of them.
+    pub fn all() -> [HardPath; 7] {
+        [
+            HardPath::of(
+                "129 pages of one entry",
+                &right_chain(129, 1),
+                b"chain/128.000",
+            ),
+            HardPath::of("one page of 65,535 entries", &widest_page(), b"a/1eke"),
+            wrong_last_prefix(),
+            long_keys(),
+            longest_keys(),
+            damaged_last_page(),
+            damaged_last_byte(),
+        ]
+    }
+
+    /// Gives the path of a key that is present.
+    fn of(name: &'static str, root: &Page, key: &[u8]) -> HardPath {
+        let root = root.written();
+        let path = root.path(key).concat();
+        HardPath {
+            name,
+            path,
+            key: key.to_vec(),
+            root: root.digest,
+        }
+        .judged(None)
+    }
+
+    /// Gives the path of one page, which verify refuses with the number.
+    fn refused(name: &'static str, page: &Page, number: u8) -> HardPath {
+        let path = page.table();
+        HardPath {
+            name,
+            root: sha256(&path),
+            path,
+            key: b"a/b1".to_vec(),
+        }
+        .judged(Some(number))
+    }
+
+    /// Checks that the number is due, or that the key is present where there is none.
+    fn judged(self, number: Option<u8>) -> HardPath {
+        let verdict = independent::verify(&self.path, &self.key, &self.root);
+        assert_eq!(verdict.err(), number, "{}", self.name);
+        assert_ne!(verdict, Ok(None), "{}", self.name);
+        self
+    }
+}
+
+/// The last of 65,535 entries has a wrong prefix.
+fn wrong_last_prefix() -> HardPath {
+    let mut page = widest_page();
+    page.write_whole(65_534);
+    HardPath::refused("65,535 entries, last prefix wrong", &page, 6)
+}
+
+/// 60,000 keys of 300 bytes, of which each shares 296 or more with the one before.
+fn long_keys() -> HardPath {
+    let start = [&[b'a'; 100][..], b"/", &[b'b'; 195]].concat();
+    let page = Page::of_all(&numbered_keys(&start, 60_000));
+    HardPath::refused("60,000 keys of 300 bytes", &page, 7)
+}
+
+/// 60,000 keys that differ in the last of 65,535 bytes: the prefixes spell 4 gigabytes.
+fn longest_keys() -> HardPath {
+    let entry = |n: usize| Entry {
+        prefix: 65_534,
+        ..Entry::new(&[b'a' + (n % 2) as u8])
+    };
+    let mut page = Page::of_keys(&[&[b'k'; 65_535]]);
+    page.entries.extend((0..60_000).map(entry));
+    HardPath::refused("60,000 keys of 65,535 bytes", &page, 7)
+}
+
+/// An ordinary path, with another value in its last page.
+fn damaged_last_page() -> HardPath {
+    let set = set(Kind::Ordinary, 4_096);
+    let root = Page::of_set(&set);
+    let root = root.written();
+    // The longest path to the last entry of a page, which stands before three bytes.
+    let paths = set.keys().map(|key| (root.path(key).concat(), key));
+    let is_last = |(path, key): &(Vec<u8>, &Vec<u8>)| {
+        let place = independent::verify(path, key, &root.digest);
+        place == Ok(Some(path.len() - 35))
+    };
+    let longest = paths.filter(is_last).max_by_key(|(path, _)| path.len());
+    let (mut path, key) = longest.expect("there are such pages");
+    let end = path.len();
+    path[end - 4] ^= 1;
+    HardPath {
+        name: "a damaged last page",
+        path,
+        key: key.clone(),
+        root: root.digest,
+    }
+    .judged(Some(16))
+}
+
+/// One page of 65,535 entries, of which the last byte departs.
+fn damaged_last_byte() -> HardPath {
+    let mut path = widest_page().table();
+    *path.last_mut().expect("there are bytes") ^= 1;
+    HardPath {
+        name: "65,535 entries and a damaged byte",
+        root: sha256(&path),
+        path,
+        key: b"a/b1".to_vec(),
+    }
+    .judged(Some(3))
 }

@@ -1,9 +1,11 @@
-//! Registers with the times they cannot do without, for the benches of all calls but digest.
+//! Registers and paths with the times they cannot do without, for the benches of all calls but
+//! digest.
 
 // Each bench is compiled with its own copy of this module and may not use all of it.
 #![allow(dead_code)]
 
 use crate::common::calls::mijdegen_digest;
+use crate::common::forge::Page;
 use crate::common::sets::{set, Kind};
 use independent::Set;
 use std::hint::black_box;
@@ -111,6 +113,79 @@ impl Subject {
         for end in &self.key_ends {
             black_box(call(black_box(&self.keys[start..*end])));
             start = *end;
+        }
+    }
+}
+
+/// The paths of some keys of a register.
+pub struct Paths {
+    root: [u8; 32],
+    sent: Vec<Sent>,
+}
+
+/// A path, with its key.
+struct Sent {
+    key: Vec<u8>,
+    path: Vec<u8>,
+    /// Where each page ends in the path.
+    page_ends: Vec<usize>,
+}
+
+impl Paths {
+    /// Gives the paths of at most so many keys, which stand all over the set.
+    pub fn of_set(set: &Set, most: usize) -> Paths {
+        let root = Page::of_set(set);
+        let root = root.written();
+        let step = set.len().div_ceil(most);
+        let sent = set.keys().step_by(step).map(|key| {
+            let mut sent = Sent {
+                key: key.clone(),
+                path: Vec::new(),
+                page_ends: Vec::new(),
+            };
+            for page in root.path(key) {
+                sent.path.extend(page);
+                sent.page_ends.push(sent.path.len());
+            }
+            assert!(mijdegen::verify(&sent.path, key, &root.digest).is_ok());
+            sent
+        });
+        Paths {
+            sent: sent.collect(),
+            root: root.digest,
+        }
+    }
+
+    /// Counts the paths.
+    pub fn count(&self) -> usize {
+        self.sent.len()
+    }
+
+    /// Counts the bytes of all paths.
+    pub fn bytes(&self) -> usize {
+        self.sent.iter().map(|sent| sent.path.len()).sum()
+    }
+
+    /// Judges each path by the library.
+    pub fn verify(&self) {
+        for sent in &self.sent {
+            let (path, key) = (black_box(&sent.path), black_box(&sent.key));
+            black_box(mijdegen::verify(path, key, &self.root)).expect("a right path");
+        }
+    }
+
+    /// Judges each path by the independent crate.
+    pub fn independent_verify(&self) {
+        for sent in &self.sent {
+            let (path, key) = (black_box(&sent.path), black_box(&sent.key));
+            black_box(independent::verify(path, key, &self.root)).expect("a right path");
+        }
+    }
+
+    /// The library's own digest over each page of each path, once each, in a bare loop.
+    pub fn hash_pages(&self) {
+        for sent in &self.sent {
+            hash_pieces(&sent.path, &sent.page_ends);
         }
     }
 }

@@ -7,7 +7,7 @@ use crate::number::{
     FIRST_AFTER_LAST, KEY_ABSENT, NO_ROOM, NO_SUCH_SCREEN, TOO_MANY_RECORDS, UNLAWFUL_KEY,
     VALUE_LENGTH,
 };
-use crate::reader::{judge, ReadPage, Record};
+use crate::reader::{judge, Below, ReadPage, Reader, Record, Sought};
 use crate::{sha256, table, Digest, Set, Value, LONGEST, MOST_RECORDS, PER_SCREEN};
 use std::collections::HashSet;
 
@@ -172,6 +172,43 @@ pub fn screen(
     Ok((write(&shown, out)?, screens))
 }
 
+/// Writes the pages that a search for the key opens, from the root on. Gives the path's length.
+pub fn path(register: &[u8], key: &[u8], out: &mut [u8]) -> Result<usize, u8> {
+    out.fill(0);
+    let root = judge(register)?.root;
+    lawful_key(key)?;
+    let mut opened = vec![root.bytes];
+    let mut page = &root;
+    while let Sought::Gap(Below(Some(next))) = page.search(key) {
+        opened.push(next.bytes);
+        page = next;
+    }
+    write_bytes(&opened.concat(), out)
+}
+
+/// Judges what a path says of the key, to one who holds the root's digest. Gives the place in the
+/// path, counted from 0, where the 32 bytes of the key's value begin, or none where the key is
+/// absent.
+pub fn verify(path: &[u8], key: &[u8], root: &[u8]) -> Result<Option<usize>, u8> {
+    let mut reader = Reader::new(path)?;
+    lawful_key(key)?;
+    let root: &Digest = root.try_into().map_err(|_| VALUE_LENGTH)?;
+
+    let (mut depth, mut digest) = (1, root);
+    let found = loop {
+        let page = reader.page_alone(depth, Some(digest))?;
+        page.judge_alone()?;
+        match page.search(key) {
+            Sought::Entry(place) => break Some(place),
+            Sought::Gap(None) => break None,
+            Sought::Gap(Some(next)) => digest = next,
+        }
+        depth += 1;
+    };
+    reader.end()?;
+    Ok(found)
+}
+
 /// Takes the records on the n-th screen of the collection out of a set, n from 0. Gives the number
 /// of the collection's screens as well.
 pub fn screen_of(set: Set, collection: &[u8], n: u64) -> Result<(Set, usize), u8> {
@@ -262,12 +299,16 @@ fn write(set: &Set, out: &mut [u8]) -> Result<usize, u8> {
 
 /// Writes the key and the value of a record into outputs of zeros. Gives the key's length.
 fn write_record(record: &Record, out: &mut [u8], value: &mut Value) -> Result<usize, u8> {
-    let length = record.key.len();
-    out.get_mut(..length)
-        .ok_or(NO_ROOM)?
-        .copy_from_slice(&record.key);
+    let length = write_bytes(&record.key, out)?;
     *value = *record.value;
     Ok(length)
+}
+
+/// Writes the bytes into an output of zeros. Gives their number.
+fn write_bytes(bytes: &[u8], out: &mut [u8]) -> Result<usize, u8> {
+    let start = out.get_mut(..bytes.len()).ok_or(NO_ROOM)?;
+    start.copy_from_slice(bytes);
+    Ok(bytes.len())
 }
 
 /// Number 7 for a key argument.

@@ -3,7 +3,7 @@
 //! The tests and benches of `mijdegen` compare the library with this crate, so it shares no code
 //! with the library and does not link it. It is written to be read, not to be fast.
 //!
-//! A refused call gives its number, from 1 to 15; [`number`] names them.
+//! A refused call gives its number, from 1 to 16; [`number`] names them.
 
 #![forbid(unsafe_code)]
 #![warn(missing_docs)]
@@ -17,8 +17,8 @@ mod table;
 pub mod tree;
 
 pub use calls::{
-    at_or_after, before, check, difference, join, join_in, list, lookup, merge, merge_in, put,
-    put_in, remove, remove_from, result_table, run, run_of, screen, screen_of, set_of,
+    at_or_after, before, check, difference, join, join_in, list, lookup, merge, merge_in, path,
+    put, put_in, remove, remove_from, result_table, run, run_of, screen, screen_of, set_of, verify,
 };
 pub use key::{lawful, layer, slash, LONGEST_KEY};
 pub use sha256::sha256;
@@ -36,7 +36,7 @@ pub type Value = [u8; 32];
 /// key stands before every longer key that begins with it.
 pub type Set = BTreeMap<Vec<u8>, Value>;
 
-/// The length in bytes of the longest register.
+/// The length in bytes of the longest register or path.
 pub const LONGEST: usize = 4_194_304;
 
 /// How many records a register holds at most.

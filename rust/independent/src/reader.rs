@@ -1,9 +1,9 @@
-//! Reading a page table, and numbers 1 to 10.
+//! Reading page tables and the pages of a path, with the numbers that are due on them.
 
 use crate::key::{lawful, layer};
 use crate::number::{
-    BYTES_FOLLOW, DEPARTS, ENDS_EARLY, KEYS_NOT_RISING, TOO_LONG, TOO_MANY_RECORDS, UNLAWFUL_KEY,
-    WRONG_DIGEST, WRONG_PREFIX, WRONG_TREE,
+    BYTES_FOLLOW, DEPARTS, ENDS_EARLY, KEYS_NOT_RISING, PAGE_NOT_DUE, TOO_LONG, TOO_MANY_RECORDS,
+    UNLAWFUL_KEY, WRONG_DIGEST, WRONG_PREFIX, WRONG_TREE,
 };
 use crate::table::{ARRAY, BYTE_STRING, LINK, NULL, NUMBER};
 use crate::tree::{build, Page};
@@ -30,48 +30,57 @@ impl Accepted<'_> {
     }
 }
 
-/// A record of a register.
+/// A record of a register or a path.
 #[derive(Clone)]
 pub(crate) struct Record<'a> {
     pub key: Vec<u8>,
     pub value: &'a Value,
-    /// Where the value's 32 bytes begin in the register, counted from 0.
+    /// Where the value's 32 bytes begin in the input, counted from 0.
     pub place: usize,
 }
 
-/// A page as its bytes spell it, with the pages below it.
-pub(crate) struct ReadPage<'a> {
+/// A page as its bytes spell it. A gap is a `Below`, or a `Link` where the page is read alone.
+pub(crate) struct ReadPage<'a, Gap = Below<'a>> {
     /// All bytes of the page.
     pub bytes: &'a [u8],
-    /// The digest in the link that leads to the page. The root has none.
-    pub linked_as: Option<&'a Digest>,
+    /// The digest in the link that leads to the page. The root of a register has none, and that of
+    /// a path has the digest that its reader holds.
+    pub linked_as: Link<'a>,
     /// The gap before the first entry.
-    pub left: ReadGap<'a>,
+    left: Gap,
     /// The entries, each with the gap after it.
-    pub entries: Vec<(ReadEntry<'a>, ReadGap<'a>)>,
+    entries: Vec<(ReadEntry<'a>, Gap)>,
 }
 
-/// A gap: empty, or linked to a page.
-pub(crate) type ReadGap<'a> = Option<Box<ReadPage<'a>>>;
+/// A gap with its pages: empty, or linked to a page.
+pub(crate) struct Below<'a>(pub Option<Box<ReadPage<'a>>>);
+
+/// The digest in a link, or none where there is no link.
+pub(crate) type Link<'a> = Option<&'a Digest>;
+
+/// Where a search for a key leads in one page.
+pub(crate) enum Sought<'p, Gap> {
+    /// To an entry, whose value begins at this place.
+    Entry(usize),
+    /// To the gap where the key would stand.
+    Gap(&'p Gap),
+}
 
 /// An entry as its bytes spell it.
 pub(crate) struct ReadEntry<'a> {
     prefix: usize,
     remainder: &'a [u8],
     value: &'a Value,
-    /// Where the value's 32 bytes begin in the register.
+    /// Where the value's 32 bytes begin in the input.
     place: usize,
 }
 
 /// Judges the register by numbers 1 to 10, each over the whole register and only when those
 /// before it hold.
 pub(crate) fn judge(register: &[u8]) -> Result<Accepted<'_>, u8> {
-    let due = |refused: bool, number: u8| if refused { Err(number) } else { Ok(()) };
-
-    due(register.len() > LONGEST, TOO_LONG)?;
-    let mut reader = Reader { register, place: 0 };
+    let mut reader = Reader::new(register)?;
     let root = reader.page(1, None)?;
-    due(reader.place < register.len(), BYTES_FOLLOW)?;
+    reader.end()?;
 
     let pages = root.in_table_order();
     let count: usize = pages.iter().map(|page| page.entries.len()).sum();
@@ -81,8 +90,7 @@ pub(crate) fn judge(register: &[u8]) -> Result<Accepted<'_>, u8> {
 
     let mut records = Vec::with_capacity(count);
     root.add_records(&mut records);
-    let rising = records.windows(2).all(|pair| pair[0].key < pair[1].key);
-    due(!rising, KEYS_NOT_RISING)?;
+    due(!rising(&records), KEYS_NOT_RISING)?;
 
     let row: Vec<(u8, &[u8])> = records
         .iter()
@@ -94,17 +102,71 @@ pub(crate) fn judge(register: &[u8]) -> Result<Accepted<'_>, u8> {
     Ok(Accepted { root, records })
 }
 
-/// Follows the bytes of a register from left to right.
-struct Reader<'a> {
-    register: &'a [u8],
+/// Says whether each key is greater than the one before it.
+fn rising(records: &[Record]) -> bool {
+    records.windows(2).all(|pair| pair[0].key < pair[1].key)
+}
+
+/// Gives the number where something is wrong.
+fn due(wrong: bool, number: u8) -> Result<(), u8> {
+    if wrong {
+        Err(number)
+    } else {
+        Ok(())
+    }
+}
+
+/// Follows the bytes of a register or a path from left to right.
+pub(crate) struct Reader<'a> {
+    input: &'a [u8],
     /// Where the next byte stands.
     place: usize,
 }
 
 impl<'a> Reader<'a> {
+    /// Starts at the first byte. Number 1 is judged before any byte.
+    pub fn new(input: &'a [u8]) -> Result<Reader<'a>, u8> {
+        due(input.len() > LONGEST, TOO_LONG)?;
+        Ok(Reader { input, place: 0 })
+    }
+
+    /// Number 4: no byte is left.
+    pub fn end(&self) -> Result<(), u8> {
+        due(self.place < self.input.len(), BYTES_FOLLOW)
+    }
+
     /// Reads a page and then the pages below it: its left subtree, then the subtree after each
     /// entry in turn. The root has depth 1.
-    fn page(&mut self, depth: usize, linked_as: Option<&'a Digest>) -> Result<ReadPage<'a>, u8> {
+    fn page(&mut self, depth: usize, linked_as: Link<'a>) -> Result<ReadPage<'a>, u8> {
+        let page = self.page_alone(depth, linked_as)?;
+        let left = self.below(depth, page.left)?;
+        let entries: Result<Vec<_>, u8> = page
+            .entries
+            .into_iter()
+            .map(|(entry, after)| Ok((entry, self.below(depth, after)?)))
+            .collect();
+        Ok(ReadPage {
+            bytes: page.bytes,
+            linked_as,
+            left,
+            entries: entries?,
+        })
+    }
+
+    /// Reads the pages of a gap of a page at this depth.
+    fn below(&mut self, depth: usize, link: Link<'a>) -> Result<Below<'a>, u8> {
+        match link {
+            Some(_) => Ok(Below(Some(Box::new(self.page(depth + 1, link)?)))),
+            None => Ok(Below(None)),
+        }
+    }
+
+    /// Reads a page and none below it. The root has depth 1.
+    pub fn page_alone(
+        &mut self,
+        depth: usize,
+        linked_as: Link<'a>,
+    ) -> Result<ReadPage<'a, Link<'a>>, u8> {
         if depth > DEEPEST {
             // The first byte of a page so deep departs; where there is none, the page is due.
             self.byte()?;
@@ -119,31 +181,16 @@ impl<'a> Reader<'a> {
         }
         self.fixed(b"\x61l")?;
         let left = self.link_or_null()?;
-        let bytes = &self.register[start..self.place];
-
-        let left = self.gap(depth, left)?;
-        let entries: Result<Vec<_>, u8> = entries
-            .into_iter()
-            .map(|(entry, after)| Ok((entry, self.gap(depth, after)?)))
-            .collect();
         Ok(ReadPage {
-            bytes,
+            bytes: &self.input[start..self.place],
             linked_as,
             left,
-            entries: entries?,
+            entries,
         })
     }
 
-    /// Reads the pages of a gap of a page at this depth.
-    fn gap(&mut self, depth: usize, link: Option<&'a Digest>) -> Result<ReadGap<'a>, u8> {
-        match link {
-            Some(_) => Ok(Some(Box::new(self.page(depth + 1, link)?))),
-            None => Ok(None),
-        }
-    }
-
     /// Reads an entry, with the link of the gap after it.
-    fn entry(&mut self) -> Result<(ReadEntry<'a>, Option<&'a Digest>), u8> {
+    fn entry(&mut self) -> Result<(ReadEntry<'a>, Link<'a>), u8> {
         self.fixed(b"\xa4\x61k")?;
         let length = self.number(BYTE_STRING)?;
         let remainder = self.free(length)?;
@@ -165,7 +212,7 @@ impl<'a> Reader<'a> {
     }
 
     /// Reads a link and gives its digest, or reads null.
-    fn link_or_null(&mut self) -> Result<Option<&'a Digest>, u8> {
+    fn link_or_null(&mut self) -> Result<Link<'a>, u8> {
         let first = self.byte()?;
         if first == NULL {
             return Ok(None);
@@ -212,7 +259,7 @@ impl<'a> Reader<'a> {
 
     /// Reads so many bytes of any kind.
     fn free(&mut self, length: usize) -> Result<&'a [u8], u8> {
-        let rest = &self.register[self.place..];
+        let rest = &self.input[self.place..];
         let bytes = rest.get(..length).ok_or(ENDS_EARLY)?;
         self.place += length;
         Ok(bytes)
@@ -230,7 +277,7 @@ impl<'a> Reader<'a> {
 
     /// Reads the next byte.
     fn byte(&mut self) -> Result<u8, u8> {
-        let byte = self.register.get(self.place).ok_or(ENDS_EARLY)?;
+        let byte = self.input.get(self.place).ok_or(ENDS_EARLY)?;
         self.place += 1;
         Ok(*byte)
     }
@@ -253,10 +300,39 @@ impl<'a> ReadPage<'a> {
 
     /// Gives the linked pages: the left one, then the one after each entry in turn.
     pub fn children(&self) -> impl Iterator<Item = &ReadPage<'a>> {
-        let after = self.entries.iter().filter_map(|(_, gap)| gap.as_deref());
-        self.left.as_deref().into_iter().chain(after)
+        let after = self.entries.iter().filter_map(|(_, gap)| gap.page());
+        self.left.page().into_iter().chain(after)
     }
 
+    /// Adds the records of the page and of all pages below it, in tree order.
+    fn add_records(&self, records: &mut Vec<Record<'a>>) {
+        if let Some(page) = self.left.page() {
+            page.add_records(records);
+        }
+        let mut key = Vec::new();
+        for (entry, gap) in &self.entries {
+            entry.change(&mut key);
+            records.push(entry.record(&key));
+            if let Some(page) = gap.page() {
+                page.add_records(records);
+            }
+        }
+    }
+
+    /// Gives the pages as a tree of keys. The keys come in tree order.
+    fn tree<'k>(&self, keys: &mut dyn Iterator<Item = &'k [u8]>) -> Page<&'k [u8]> {
+        let left = self.left.page().map(|page| Box::new(page.tree(keys)));
+        let mut entries = Vec::with_capacity(self.entries.len());
+        for (_, gap) in &self.entries {
+            let key = keys.next().expect("each entry has a key");
+            let after = gap.page().map(|page| Box::new(page.tree(keys)));
+            entries.push((key, after));
+        }
+        Page { left, entries }
+    }
+}
+
+impl<'a, Gap> ReadPage<'a, Gap> {
     /// Number 6: each prefix length is the count of all leading bytes that the key shares with
     /// the key before it in the page.
     fn prefixes_hold(&self) -> bool {
@@ -277,26 +353,11 @@ impl<'a> ReadPage<'a> {
         })
     }
 
-    /// Number 10: the digest in the link to the page is that of the page.
+    /// Number 10, and 16 in a path: the digest in the link to the page is that of the page.
     fn digest_holds(&self) -> bool {
         match self.linked_as {
             Some(digest) => *digest == sha256(self.bytes),
             None => true,
-        }
-    }
-
-    /// Adds the records of the page and of all pages below it, in tree order.
-    fn add_records(&self, records: &mut Vec<Record<'a>>) {
-        if let Some(page) = &self.left {
-            page.add_records(records);
-        }
-        let mut key = Vec::new();
-        for (entry, gap) in &self.entries {
-            entry.change(&mut key);
-            records.push(entry.record(&key));
-            if let Some(page) = gap {
-                page.add_records(records);
-            }
         }
     }
 
@@ -312,16 +373,30 @@ impl<'a> ReadPage<'a> {
             .collect()
     }
 
-    /// Gives the pages as a tree of keys. The keys come in tree order.
-    fn tree<'k>(&self, keys: &mut dyn Iterator<Item = &'k [u8]>) -> Page<&'k [u8]> {
-        let left = self.left.as_ref().map(|page| Box::new(page.tree(keys)));
-        let mut entries = Vec::with_capacity(self.entries.len());
-        for (_, gap) in &self.entries {
-            let key = keys.next().expect("each entry has a key");
-            let after = gap.as_ref().map(|page| Box::new(page.tree(keys)));
-            entries.push((key, after));
+    /// Numbers 6, 7 and 8 within the page, and 16 for a digest that is not the one due.
+    pub fn judge_alone(&self) -> Result<(), u8> {
+        due(!self.prefixes_hold(), WRONG_PREFIX)?;
+        due(!self.keys_hold(), UNLAWFUL_KEY)?;
+        due(!rising(&self.own_records()), KEYS_NOT_RISING)?;
+        due(!self.digest_holds(), PAGE_NOT_DUE)
+    }
+
+    /// Looks for the key among those of the page, which rise.
+    pub fn search(&self, key: &[u8]) -> Sought<'_, Gap> {
+        let records = self.own_records();
+        let lesser = records.partition_point(|record| record.key.as_slice() < key);
+        match records.get(lesser) {
+            Some(record) if record.key == key => Sought::Entry(record.place),
+            _ if lesser == 0 => Sought::Gap(&self.left),
+            _ => Sought::Gap(&self.entries[lesser - 1].1),
         }
-        Page { left, entries }
+    }
+}
+
+impl<'a> Below<'a> {
+    /// Gives the linked page.
+    fn page(&self) -> Option<&ReadPage<'a>> {
+        self.0.as_deref()
     }
 }
 

@@ -1,8 +1,8 @@
 //! The writing calls and the reading calls against plain work on sets.
 
 use independent::{
-    at_or_after, before, check, difference, join, layer, list, lookup, merge, pages, put, remove,
-    run, screen, set_of, sha256, table, tree, tree_of, Digest, Set, Value,
+    at_or_after, before, check, difference, join, layer, list, lookup, merge, pages, path, put,
+    remove, run, screen, set_of, sha256, table, tree, tree_of, verify, Digest, Set, Value,
 };
 use std::collections::BTreeSet;
 
@@ -199,6 +199,93 @@ fn screens_of_collections() {
         }
     }
     assert!(full > 300 && empty > 10 && shown > full + empty);
+}
+
+/// Gives the pages that a search for the key opens, by the tree and the pages in table order.
+fn opened_for(set: &Set, key: &[u8]) -> Vec<u8> {
+    let (tree, pages) = (tree_of(set), pages(set));
+    let (mut page, mut place, mut path) = (&tree, 0, Vec::new());
+    loop {
+        path.extend(&pages[place]);
+        let own = || page.entries.iter().map(|((own, _), _)| *own);
+        let after = page.entries.iter().map(|(_, gap)| gap);
+        let mut gaps = [&page.left].into_iter().chain(after);
+        // The pages of the gaps before that of the key stand before its own.
+        let lesser = own().filter(|own| *own < key).count();
+        let before = gaps.by_ref().take(lesser).flatten();
+        place += 1 + before.map(|page| page.pages()).sum::<usize>();
+        match gaps.next().and_then(Option::as_ref) {
+            Some(next) if own().all(|own| own != key) => page = next,
+            _ => return path,
+        }
+    }
+}
+
+/// The path of each of 60 keys, present and not, and what it says of the key. What it says of
+/// another key is refused or true as well.
+#[test]
+fn paths_and_verdicts() {
+    let mut random = Random(9);
+    let (mut present, mut absent, mut refused, mut others) = (0, 0, 0, 0);
+    for _ in 0..100 {
+        let set = random.set(60);
+        let register = table(&set);
+        let root = sha256(&pages(&set)[0]);
+        for number in 0..60 {
+            let key = format!("few/{number}").into_bytes();
+            let found = written(|out| path(&register, &key, out)).expect("the register is short");
+            assert_eq!(found, opened_for(&set, &key));
+            assert!(found.len() <= register.len());
+            let value = |place: usize| &found[place..place + 32];
+            let verdict = verify(&found, &key, &root).expect("the path is right");
+            assert_eq!(verdict.map(value), set.get(&key).map(|value| &value[..]));
+            present += usize::from(verdict.is_some());
+            absent += usize::from(verdict.is_none());
+
+            let other = random.key();
+            match verify(&found, &other, &root) {
+                Ok(verdict) => {
+                    assert_eq!(verdict.map(value), set.get(&other).map(|value| &value[..]));
+                    others += 1;
+                }
+                // The search for the other key ends before, or goes on to another page.
+                Err(number) => {
+                    assert!([2, 4, 16].contains(&number), "{number}");
+                    refused += 1;
+                }
+            }
+        }
+    }
+    assert!(present > 1_000 && absent > 1_000);
+    assert!(refused > 1_000 && others > 1_000);
+}
+
+/// Every bit of a path flipped and every length of it: there is no other verdict.
+#[test]
+fn damaged_paths() {
+    let few = (0..60).filter(|number| number % 3 != 0);
+    let set: Set = few
+        .map(|number| (format!("few/{number}").into_bytes(), [number; 32]))
+        .collect();
+    assert!(pages(&set).len() > 10);
+    let (register, root) = (table(&set), sha256(&pages(&set)[0]));
+    let mut counts = [0; 17];
+    for number in (0..60).step_by(5) {
+        let key = format!("few/{number}").into_bytes();
+        let mut found = written(|out| path(&register, &key, out)).expect("room");
+        for length in 0..found.len() {
+            assert_eq!(verify(&found[..length], &key, &root), Err(2));
+        }
+        for bit in 0..8 * found.len() {
+            found[bit / 8] ^= 1 << (bit % 8);
+            let number = verify(&found, &key, &root).expect_err("a page was changed");
+            counts[usize::from(number)] += 1;
+            found[bit / 8] ^= 1 << (bit % 8);
+        }
+    }
+    for number in [3, 6, 7, 8, 16] {
+        assert!(counts[number] > 0, "number {number}");
+    }
 }
 
 /// Random calls one after the other, against a set that is changed by hand.

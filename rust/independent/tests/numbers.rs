@@ -1,8 +1,8 @@
 //! The scope's small example of each number, and how numbers go before one another.
 
 use independent::{
-    at_or_after, before, check, difference, join, list, lookup, merge, put, remove, run, screen,
-    sha256, slash, table, Set, Value, LONGEST, MOST_RECORDS,
+    at_or_after, before, check, difference, join, list, lookup, merge, path, put, remove, run,
+    screen, sha256, slash, table, verify, Set, Value, LONGEST, MOST_RECORDS,
 };
 
 const EMPTY: [u8; 7] = [0xa2, 0x61, 0x65, 0x80, 0x61, 0x6c, 0xf6];
@@ -139,6 +139,7 @@ fn number_7() {
         assert_eq!(run(&EMPTY, key, b"-/-", &mut []), Err(7));
         assert_eq!(run(&EMPTY, b"~/~", key, &mut []), Err(7));
         assert_eq!(run(&EMPTY, key, key, &mut []), Err(7));
+        assert_eq!(path(&EMPTY, key, &mut []), Err(7));
     }
     for collection in [&b""[..], b"/", b"a/", b"a/b1", b"a b", &[b'a'; 255]] {
         assert_eq!(screen(&EMPTY, collection, 0, &mut [0; 100]), Err(7));
@@ -284,6 +285,12 @@ fn number_13() {
     assert_eq!(screen(&register, b"b", 0, &mut out[..6]), Err(13));
     assert_eq!(screen(&register, b"b", 0, &mut out[..7]), Ok((7, 1)));
     assert_eq!(out[..7], EMPTY);
+
+    out.fill(0xaa);
+    assert_eq!(path(&register, b"a/b2", &mut out[..63]), Err(13));
+    assert!(out[..63].iter().all(|byte| *byte == 0));
+    assert_eq!(path(&register, b"a/b2", &mut out), Ok(64));
+    assert_eq!(out, register);
 }
 
 #[test]
@@ -317,6 +324,98 @@ fn number_15() {
     let (_, screens) = screen(&register, b"many", 511, &mut [0; 2_000]).expect("the last screen");
     assert_eq!(screens, 512);
     assert_eq!(screen(&register, b"many", 512, &mut out), Err(15));
+}
+
+#[test]
+fn number_16() {
+    let register = two_pages();
+    let below = page(&[entry(0, b"a/b1")], None);
+    let (root, _) = register.split_at(register.len() - below.len());
+    let digest = sha256(root);
+    // The value of `a/b1` ends its page but for two bytes and null.
+    let place = register.len() - 3 - 32;
+    assert_eq!(verify(&register, b"a/b1", &digest), Ok(Some(place)));
+    assert_eq!(verify(&register, b"a/b0", &digest), Ok(None));
+    assert_eq!(verify(root, b"a/b2", &digest), Ok(Some(29)));
+    assert_eq!(verify(root, b"a/b3", &digest), Ok(None));
+
+    // Another root digest, and another page than the one that is linked.
+    assert_eq!(verify(&register, b"a/b1", &sha256(&below)), Err(16));
+    assert_eq!(verify(&below, b"a/b1", &digest), Err(16));
+    let other = [root, &EMPTY].concat();
+    assert_eq!(verify(&other, b"a/b1", &digest), Err(16));
+    let twice = [root, root].concat();
+    assert_eq!(verify(&twice, b"a/b1", &digest), Err(16));
+}
+
+/// What a path of one page or two draws besides 16.
+#[test]
+fn numbers_of_paths() {
+    let register = two_pages();
+    let below = page(&[entry(0, b"a/b1")], None);
+    let (root, _) = register.split_at(register.len() - below.len());
+    let digest = sha256(root);
+
+    let long = vec![0; LONGEST + 1];
+    assert_eq!(verify(&long, b"a/", b""), Err(1));
+    assert_eq!(verify(&long[1..], b"a/", b""), Err(7));
+    for length in [0, 1, 31, 33, 64] {
+        let other = vec![0; length];
+        assert_eq!(verify(&long[1..], b"a/b1", &other), Err(11));
+    }
+    assert_eq!(verify(&long[1..], b"a/b1", &digest), Err(3));
+    for length in 0..register.len() {
+        assert_eq!(verify(&register[..length], b"a/b1", &digest), Err(2));
+    }
+    // The search for these keys ends in the root.
+    for key in [b"a/b2", b"a/b3"] {
+        assert_eq!(verify(&register, key, &digest), Err(4));
+        assert_eq!(verify(&[root, &[0]].concat(), key, &digest), Err(4));
+    }
+    let followed = [&register[..], &[0xa2]].concat();
+    assert_eq!(verify(&followed, b"a/b1", &digest), Err(4));
+
+    // Each fault goes before the next, and 16 comes last; the digest is that of no page.
+    let number = |page: Vec<u8>| verify(&page, b"a/b1", &[0; 32]);
+    let falling = [entry(0, b"a/b2"), entry(3, b"1")];
+    assert_eq!(number(page(&falling, None)), Err(8));
+    let unlawful = [&falling[..], &[entry(3, b" ")]].concat();
+    assert_eq!(number(page(&unlawful, None)), Err(7));
+    let wrong_prefix = [&unlawful[..], &[entry(9, b"1")]].concat();
+    assert_eq!(number(page(&wrong_prefix, None)), Err(6));
+    assert_eq!(number(EMPTY.to_vec()), Err(16));
+
+    // Layers and the count are not judged.
+    let flat = page(&[entry(0, b"a/b1"), entry(3, b"2")], Some([7; 32]));
+    assert_eq!(verify(&flat, b"a/b2", &sha256(&flat)), Ok(Some(83)));
+    let without = page(&[], Some(sha256(&below)));
+    let long_way = [&without[..], &below].concat();
+    let found = verify(&long_way, b"a/b1", &sha256(&without));
+    assert_eq!(found, Ok(Some(without.len() + 29)));
+}
+
+/// A path of one page without entries for each link, and one with an entry.
+#[test]
+fn depth_of_paths() {
+    let mut pages = vec![page(&[entry(0, b"a/b1")], None)];
+    for depth in 2..=131 {
+        let root = page(&[], Some(sha256(&pages[0])));
+        let digest = sha256(&root);
+        pages.insert(0, root);
+        let path = pages.concat();
+        let place = path.len() - 3 - 32;
+        let expected = if depth <= 129 {
+            Ok(Some(place))
+        } else {
+            Err(3)
+        };
+        assert_eq!(verify(&path, b"a/b1", &digest), expected, "{depth} pages");
+
+        let last = pages[depth - 1].len();
+        let cut = &path[..path.len() - last];
+        let expected = if depth <= 130 { Err(2) } else { Err(3) };
+        assert_eq!(verify(cut, b"a/b1", &digest), expected, "{depth} pages");
+    }
 }
 
 /// From the root down, 129 pages may follow one another.
@@ -410,8 +509,8 @@ fn order_over_two_registers() {
     assert_eq!(list(&tenth, 0, &mut [], &mut [0; 32]), Err(10));
 }
 
-/// Register, key, absence, output; register, first key, last key, 14, output; and register,
-/// collection, 15, output.
+/// Register, key, absence, output; register, first key, last key, 14, output; register, collection,
+/// 15, output; and register, key, output.
 #[test]
 fn order_of_keys() {
     let tenth = {
@@ -444,4 +543,8 @@ fn order_of_keys() {
     assert_eq!(screen(&register, b"a/", 1, &mut []), Err(7));
     assert_eq!(screen(&register, b"a", 1, &mut []), Err(15));
     assert_eq!(screen(&register, b"a", 0, &mut []), Err(13));
+
+    assert_eq!(path(&tenth, b"a/", &mut []), Err(10));
+    assert_eq!(path(&register, b"a/", &mut []), Err(7));
+    assert_eq!(path(&register, b"a/b1", &mut []), Err(13));
 }

@@ -1,8 +1,9 @@
 //! The C functions with a watch on their buffers, and the comparison of slash, check, lookup and
 //! list with the crate `independent`.
 
-use super::forge::EMPTY;
+use super::forge::{Page, EMPTY};
 use super::neighbours::{expect_record, Neighbour, NEIGHBOURS};
+use super::paths::{compare_verify, expect_path};
 use super::sets::{collection_of, greatest_key, least_key, screens_of};
 use super::writes::{expect_refusal, expect_table, expect_table_and, Call};
 use super::{hexadecimal, Random};
@@ -156,14 +157,17 @@ impl Surrounded {
 }
 
 /// Compares check, lookup and list with the independent crate, by the safe and by the C
-/// functions. Looks at the other calls that take a register as well, as far as they judge it. Gives
-/// the number that is due on the register, or 0 where it is accepted.
+/// functions. Looks at the other calls that take a register as well, as far as they judge it, and
+/// at verify with the same bytes. Gives the number that is due on the register, or 0 where it is
+/// accepted.
 pub fn number_of(register: &[u8]) -> u8 {
     let expected = independent::check(register);
     let found = check(register).map_err(Refusal::number);
     assert_eq!(found, expected, "check of {}", shown(register));
     let found = raw_check(&mut register.to_vec());
     assert_eq!(found, answer(expected), "C check of {}", shown(register));
+    // One page is a path by itself, and of several pages the first is not the one due.
+    let _ = compare_verify(register, b"a/b1", &sha256(register));
 
     match expected {
         Err(number) => {
@@ -180,7 +184,7 @@ pub fn number_of(register: &[u8]) -> u8 {
 /// All calls refuse the register with the number, whatever else they are given, and the outputs
 /// are zero.
 fn compare_refused(register: &[u8], number: u8) {
-    let refusal = Refusal::from_number(number).expect("a number from 1 to 15");
+    let refusal = Refusal::from_number(number).expect("a number from 1 to 16");
     assert_eq!(lookup(register, b"a/b1"), Err(refusal), "a lawful key");
     assert_eq!(lookup(register, b"ab"), Err(refusal), "an unlawful key");
     let mut out = [0xaa; 5];
@@ -210,6 +214,7 @@ fn compare_refused(register: &[u8], number: u8) {
         Call::merge(b""),
         Call::difference(b""),
         Call::screen(b"a/", u64::MAX),
+        Call::path(b"ab"),
     ];
     let turn = &calls[register.len() % calls.len()];
     expect_refusal(register, turn, register.len() % 100, number);
@@ -223,11 +228,13 @@ fn compare_refused(register: &[u8], number: u8) {
 
 /// The last record is found and listed, alone and beside the one before it, in all but large
 /// registers also the first and the middle one; and the register is the one of its set and the one
-/// that the library writes.
+/// that the library writes. By its path the last key is present.
 fn compare_accepted(register: &[u8], count: usize) {
     let set = independent::set_of(register).expect("the register is accepted");
     assert_eq!(set.len(), count);
     assert!(table(&set) == register, "{}", shown(register));
+    let root = Page::of_set(&set);
+    let root = root.written();
 
     let mut lent = register.to_vec();
     let records: Vec<_> = set.iter().collect();
@@ -251,6 +258,7 @@ fn compare_accepted(register: &[u8], count: usize) {
     );
     let found = compare_lookup(register, b"a/b1");
     assert_eq!(found.is_ok(), set.contains_key(&b"a/b1"[..]));
+    expect_path(register, &set, &root, b"a/b1");
     assert_eq!(compare_lookup(register, b"ab"), Err(7));
 
     // The run of all keys is written anew.
@@ -266,6 +274,8 @@ fn compare_accepted(register: &[u8], count: usize) {
     let last = table(&screens[screens.len() - 1]);
     let call = Call::screen(collection, screens.len() as u64 - 1);
     expect_table_and(register, &call, last.len(), &last, screens.len());
+    // The path of the last key.
+    expect_path(register, &set, &root, last_key);
 }
 
 /// Compares slash and split with the independent crate, by the safe and by the C functions. Gives

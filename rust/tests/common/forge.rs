@@ -1,10 +1,11 @@
-//! Page tables of any content, lawful or not.
+//! Page tables and paths of any content, lawful or not.
 //!
 //! The bytes are written here another way than in the crate `independent`, and the tests compare
 //! the two on lawful sets.
 
-use super::sets::{set, set_of_layers, Kind};
+use super::sets::{numbered_keys, set, set_of_layers, Kind};
 use independent::{sha256, table, tree, tree_of, Set, LONGEST};
+use std::cell::OnceCell;
 
 /// The nine bytes with which each link begins.
 pub const LINK: &[u8; 9] = b"\xd8\x2a\x58\x25\x00\x01\x71\x12\x20";
@@ -79,11 +80,16 @@ impl Page {
     /// Gives a page of these keys with right prefixes and without links. The keys may be in any
     /// order and break the key rule.
     pub fn of_keys(keys: &[&[u8]]) -> Page {
+        Page::of_all(&keys.iter().map(|key| key.to_vec()).collect::<Vec<_>>())
+    }
+
+    /// As `of_keys`, of keys that were made one by one.
+    pub fn of_all(keys: &[Vec<u8>]) -> Page {
         let mut page = Page::default();
         for key in keys {
             page.entries.push(Entry::new(key));
         }
-        page.spell(&keys.iter().map(|key| key.to_vec()).collect::<Vec<_>>());
+        page.spell(keys);
         page
     }
 
@@ -136,15 +142,19 @@ impl Page {
         assert_eq!(keys.len(), self.entries.len());
         let mut before: &[u8] = b"";
         for (entry, key) in self.entries.iter_mut().zip(keys) {
-            let mut prefix = 0;
-            while prefix < before.len() && prefix < key.len() && before[prefix] == key[prefix] {
-                prefix += 1;
-            }
             // A longer prefix has no form.
-            entry.prefix = prefix.min(65_535);
+            entry.prefix = shared(before, key).min(65_535);
             entry.remainder = key[entry.prefix..].to_vec();
             before = key;
         }
+    }
+
+    /// Writes one entry with its whole key as the remainder. The prefix is then wrong where the key
+    /// shares bytes with the one before it.
+    pub fn write_whole(&mut self, place: usize) {
+        let key = self.keys().swap_remove(place);
+        let entry = &mut self.entries[place];
+        (entry.prefix, entry.remainder) = (0, key);
     }
 
     /// Changes the key of one entry. All prefixes of the page are right afterwards.
@@ -186,26 +196,19 @@ impl Page {
 
     /// Gives the page table.
     pub fn table(&self) -> Vec<u8> {
-        self.table_and_digest().0
+        let mut table = Vec::new();
+        self.written().add_to(&mut table);
+        table
     }
 
-    fn table_and_digest(&self) -> (Vec<u8>, [u8; 32]) {
-        let mut below = Vec::new();
-        let mut gap = |link: &Option<Link>| match link {
-            Some(link) => {
-                let (table, mut digest) = link.page.table_and_digest();
-                below.extend(table);
-                for (byte, flip) in digest.iter_mut().zip(link.flip) {
-                    *byte ^= flip;
-                }
-                link_bytes(&digest)
-            }
-            None => vec![0xf6],
-        };
-        let left = gap(&self.left);
+    /// Writes the page and all pages below it.
+    pub fn written(&self) -> Written<'_> {
+        let (page, left) = written_gap(&self.left);
+        let mut gaps = vec![page];
         let mut entries = Vec::new();
         for entry in &self.entries {
-            let after = gap(&entry.after);
+            let (page, after) = written_gap(&entry.after);
+            gaps.push(page);
             entries.extend(entry_bytes(
                 &head(0x40, entry.remainder.len()),
                 &entry.remainder,
@@ -214,10 +217,63 @@ impl Page {
                 &entry.value,
             ));
         }
-        let mut bytes = page_bytes(&head(0x80, self.entries.len()), &entries, &left);
-        let digest = sha256(&bytes);
-        bytes.extend(below);
-        (bytes, digest)
+        let bytes = page_bytes(&head(0x80, self.entries.len()), &entries, &left);
+        Written {
+            page: self,
+            keys: OnceCell::new(),
+            digest: sha256(&bytes),
+            bytes,
+            gaps,
+        }
+    }
+}
+
+/// Writes the pages of a gap. Gives its link as bytes as well.
+fn written_gap(link: &Option<Link>) -> (Option<Written<'_>>, Vec<u8>) {
+    match link {
+        Some(link) => {
+            let page = link.page.written();
+            let mut digest = page.digest;
+            for (byte, flip) in digest.iter_mut().zip(link.flip) {
+                *byte ^= flip;
+            }
+            (Some(page), link_bytes(&digest))
+        }
+        None => (None, vec![0xf6]),
+    }
+}
+
+/// A page with its bytes, and the pages below it. Many paths can be taken from it.
+pub struct Written<'p> {
+    page: &'p Page,
+    /// The keys of the page alone, once they are asked for.
+    keys: OnceCell<Vec<Vec<u8>>>,
+    bytes: Vec<u8>,
+    /// The digest of the bytes: the root digest, where the page is the root.
+    pub digest: [u8; 32],
+    /// The gap before the first entry, then the one after each entry.
+    gaps: Vec<Option<Written<'p>>>,
+}
+
+impl Written<'_> {
+    /// Gives the bytes of the pages that a search for the key opens, each page alone.
+    pub fn path(&self, key: &[u8]) -> Vec<&[u8]> {
+        let keys = self.keys.get_or_init(|| self.page.keys());
+        let lesser = keys.iter().take_while(|own| own.as_slice() < key).count();
+        let is_entry = keys.get(lesser).is_some_and(|own| own == key);
+        let mut opened = vec![&self.bytes[..]];
+        if let Some(page) = self.gaps[lesser].as_ref().filter(|_| !is_entry) {
+            opened.extend(page.path(key));
+        }
+        opened
+    }
+
+    /// Adds the table of the page and of all pages below it.
+    fn add_to(&self, table: &mut Vec<u8>) {
+        table.extend(&self.bytes);
+        for page in self.gaps.iter().flatten() {
+            page.add_to(table);
+        }
     }
 }
 
@@ -231,6 +287,15 @@ impl Entry {
             value: [0x11; 32],
         }
     }
+}
+
+/// Counts the leading bytes that the keys share.
+pub fn shared(one: &[u8], other: &[u8]) -> usize {
+    let mut count = 0;
+    while count < one.len() && count < other.len() && one[count] == other[count] {
+        count += 1;
+    }
+    count
 }
 
 /// Writes a number in its shortest form: 0x00 for a plain number, 0x40 for the length of a byte
@@ -292,12 +357,17 @@ pub fn right_chain(pages: usize, entries: usize) -> Page {
         let keys: Vec<_> = (0..entries)
             .map(|entry| format!("chain/{number:03}.{entry:03}").into_bytes())
             .collect();
-        let mut page = Page::of_keys(&keys.iter().map(Vec::as_slice).collect::<Vec<_>>());
+        let mut page = Page::of_all(&keys);
         let last = page.entries.last_mut().expect("there are entries");
         last.after = below.and_then(link_to);
         below = Some(page);
     }
     below.expect("there are pages")
+}
+
+/// A page with as many entries as a page can have. The keys are lawful and rise.
+pub fn widest_page() -> Page {
+    Page::of_all(&numbered_keys(b"a/", 65_535))
 }
 
 /// A page with so many keys, all too long to be lawful, and a left link to an empty page: a table

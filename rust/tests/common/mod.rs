@@ -9,6 +9,7 @@ pub mod calls;
 pub mod forge;
 pub mod lists;
 pub mod neighbours;
+pub mod paths;
 pub mod repository;
 pub mod sets;
 pub mod writes;

@@ -125,6 +125,22 @@ pub fn part(set: &Set, wanted: impl Fn(usize) -> bool) -> Set {
         .collect()
 }
 
+/// Gives sets whose registers have one page and several, and few bytes.
+pub fn small_sets() -> [Set; 10] {
+    [
+        Set::new(),
+        Set::from([(b"a/b1".to_vec(), [0x11; 32])]),
+        set_of_layers(&[1, 1]),
+        set_of_layers(&[0, 2]),
+        set_of_layers(&[0, 1, 0]),
+        set_of_layers(&[0, 0, 1, 0, 3, 1]),
+        set(Kind::Chains, 3),
+        set(Kind::SharedPrefix, 3),
+        set(Kind::Ordinary, 10),
+        set(Kind::Mixed, 10),
+    ]
+}
+
 /// Gives all parts of the set, none and all of its records among them. The n-th from the end has the
 /// records that the n-th has not.
 pub fn parts(set: &Set) -> Vec<Set> {
@@ -415,6 +431,17 @@ pub fn long_keys_in_turn(layers: &[u8], count: usize) -> Set {
                 .expect("there is always a further key");
             assert_eq!(key.len(), 256);
             (key, value(&mut random))
+        })
+        .collect()
+}
+
+/// Gives so many keys in order, each the start and four letters or digits.
+pub fn numbered_keys(start: &[u8], count: usize) -> Vec<Vec<u8>> {
+    let digit = |n: usize| b"0123456789abcdefghijklmnopqrstuvwxyz"[n % 36];
+    (0..count)
+        .map(|n| {
+            let end = [n / 36 / 36 / 36, n / 36 / 36, n / 36, n].map(digit);
+            [start, &end].concat()
         })
         .collect()
 }

@@ -1,13 +1,14 @@
-//! The seven writing calls as one type, and their comparison with the crate `independent`.
+//! The eight writing calls as one type, and their comparison with the crate `independent`.
 //!
-//! A call that is done gives the value of its answer: the length of the table, and besides 2^24
-//! times the number of opened pages, for difference, or of screens, for screen.
+//! A call that is done gives the value of its answer: the length of the table, or of the path, and
+//! besides 2^24 times the number of opened pages, for difference, or of screens, for screen.
 
 use super::calls::{
-    answer, mijdegen_difference, mijdegen_join, mijdegen_merge, mijdegen_put, mijdegen_remove,
-    mijdegen_run, mijdegen_screen, shown, Surrounded,
+    answer, mijdegen_difference, mijdegen_join, mijdegen_merge, mijdegen_path, mijdegen_put,
+    mijdegen_remove, mijdegen_run, mijdegen_screen, shown, Surrounded,
 };
-use independent::{Set, LONGEST};
+use super::forge::Page;
+use independent::{lawful, result_table, Set, LONGEST};
 use mijdegen::Refusal;
 use std::fmt;
 
@@ -21,6 +22,7 @@ pub enum Call {
     Merge { second: Vec<u8> },
     Difference { second: Vec<u8> },
     Screen { collection: Vec<u8>, n: u64 },
+    Path { key: Vec<u8> },
 }
 
 /// Gives the value of an answer from the table's length and the second number: that of opened
@@ -29,7 +31,7 @@ pub fn value_of_two(length: usize, second: usize) -> usize {
     length + (second << 24)
 }
 
-/// Gives the table's length from the value of an answer. No table has 2^24 bytes.
+/// Gives the length of what is written from the value of an answer. It is less than 2^24.
 pub fn length_in(value: usize) -> usize {
     value % (1 << 24)
 }
@@ -79,6 +81,10 @@ impl Call {
         }
     }
 
+    pub fn path(key: &[u8]) -> Call {
+        Call::Path { key: key.to_vec() }
+    }
+
     /// Calls the safe function.
     pub fn safe(&self, register: &[u8], out: &mut [u8]) -> Result<usize, u8> {
         let result = match self {
@@ -94,6 +100,7 @@ impl Call {
                 mijdegen::screen(register, collection, n, out)
                     .map(|found| value_of_two(found.length, found.screens))
             }
+            Call::Path { key } => mijdegen::path(register, key, out),
         };
         result.map_err(Refusal::number)
     }
@@ -172,6 +179,9 @@ impl Call {
                     out.start(),
                     out_length,
                 ),
+                Call::Path { key } => {
+                    mijdegen_path(reg, reg_len, lent(key), key.len(), out.start(), out_length)
+                }
             }
         };
         assert!(copy == register, "the register was changed by {self:?}");
@@ -191,6 +201,7 @@ impl Call {
                 .map(|(length, opened)| value_of_two(length, opened)),
             Call::Screen { collection, n } => independent::screen(register, collection, *n, out)
                 .map(|(length, screens)| value_of_two(length, screens)),
+            Call::Path { key } => independent::path(register, key, out),
         }
     }
 
@@ -216,6 +227,19 @@ impl Call {
                 let (shown, _) = independent::screen_of(set, collection, *n)?;
                 Ok(shown)
             }
+            Call::Path { .. } => panic!("a path is no register"),
+        }
+    }
+
+    /// Gives what the call writes where its register is that of a plain set, or the number that is
+    /// due where the output has room.
+    pub fn result(&self, set: Set) -> Result<Vec<u8>, u8> {
+        match self {
+            Call::Path { key } if lawful(key) => {
+                Ok(Page::of_set(&set).written().path(key).concat())
+            }
+            Call::Path { .. } => Err(7),
+            _ => result_table(&self.change(set)?, LONGEST),
         }
     }
 }
@@ -235,6 +259,7 @@ impl fmt::Debug for Call {
             Call::Merge { second } => write!(formatter, "merge {}", shown(second)),
             Call::Difference { second } => write!(formatter, "difference {}", shown(second)),
             Call::Screen { collection, n } => write!(formatter, "screen {} {n}", text(collection)),
+            Call::Path { key } => write!(formatter, "path {}", text(key)),
         }
     }
 }
@@ -261,7 +286,7 @@ pub fn expect_outcome(
     out
 }
 
-/// Expects the table and zeros after it, in an output of this length.
+/// Expects the table, or the path, and zeros after it, in an output of this length.
 pub fn expect_table(register: &[u8], call: &Call, out_length: usize, table: &[u8]) {
     expect_table_and(register, call, out_length, table, 0);
 }
@@ -296,11 +321,9 @@ pub fn compare_call(register: &[u8], call: &Call, out_length: usize) -> Result<u
 }
 
 /// Compares the call with the independent crate for outputs that are just long enough, longer,
-/// one byte too short and empty. Gives the table.
+/// one byte too short and empty. Gives the table, or the path.
 pub fn compare_lengths(register: &[u8], call: &Call) -> Result<Vec<u8>, u8> {
-    let table = independent::set_of(register)
-        .and_then(|set| call.change(set))
-        .and_then(|set| independent::result_table(&set, LONGEST));
+    let table = independent::set_of(register).and_then(|set| call.result(set));
     match &table {
         Ok(table) => {
             let length = table.len();
@@ -323,13 +346,13 @@ pub fn compare_lengths(register: &[u8], call: &Call) -> Result<Vec<u8>, u8> {
     table
 }
 
-/// Calls the safe function with an output that has room. Gives the table.
+/// Calls the safe function with an output that has room. Gives the table, or the path.
 pub fn written(register: &[u8], call: &Call) -> Vec<u8> {
     // Most results have room where the inputs would stand twice, and the others are tried again.
     let handed = match call {
         Call::Merge { second } | Call::Difference { second } => second.len(),
         Call::Put { key, .. } | Call::Join { key, .. } | Call::Remove { key } => key.len(),
-        Call::Run { .. } | Call::Screen { .. } => 0,
+        Call::Run { .. } | Call::Screen { .. } | Call::Path { .. } => 0,
     };
     for room in [2 * (register.len() + handed) + 1_000, LONGEST] {
         let mut out = vec![0xaa; room];

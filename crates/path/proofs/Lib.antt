@@ -1,0 +1,6 @@
+pub mod Searching
+pub mod Orders
+pub mod Trees
+pub mod Right
+pub mod Agreement
+pub mod Promises

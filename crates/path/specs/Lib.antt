@@ -1,0 +1,4 @@
+pub mod Path
+pub mod Verify
+pub mod Order
+pub mod Promises

@@ -1,0 +1,4 @@
+pub mod Keys
+pub mod Rows
+pub mod PageTests
+pub mod Paths
