@@ -14,3 +14,4 @@ pub mod Largest
 pub mod PlaceLaws
 pub mod Laws
 pub mod Examples
+pub mod Alone
