@@ -10,6 +10,7 @@ mod hard;
 mod subject;
 mod timing;
 
+use common::heads::{head_for, head_of};
 use common::neighbours::Neighbour;
 use common::sets::{collection_of, part, screens_of, set, Kind};
 use common::writes::{length_in, Call};
@@ -64,22 +65,32 @@ impl<'a> Case<'a> {
     }
 
     /// A writing call with an output that is just long enough. The second register is among the
-    /// lent ones where there is one.
+    /// lent ones where there is one. Each call is lent the same head, which was taken beforehand.
     fn write(name: &'static str, lent: &'a [&'a Subject], call: Call) -> Case<'a> {
         let register = &lent[0].register;
+        let head = head_of(&lent[0].set);
         let mut expected = vec![0; 2 * register.len() + 10_000];
-        let value = call.independent(register, &mut expected);
+        let mut expected_head = head;
+        let value = call.independent(register, &mut expected_head, &mut expected);
         expected.truncate(length_in(value.expect("room")));
-        let mut out = vec![0; expected.len()];
-        assert_eq!(call.safe(register, &mut out), value);
-        assert!(out == expected, "{name}");
+        let (mut out, mut moved) = (vec![0; expected.len()], head);
+        assert_eq!(call.safe(register, &mut moved, &mut out), value);
+        assert!(out == expected && moved == expected_head, "{name}");
 
         let mut other_out = out.clone();
         let other_call = call.clone();
         Case::new(
             name,
-            move || call.safe(black_box(register), &mut out),
-            move || other_call.independent(black_box(register), &mut other_out),
+            move || {
+                let mut lent = black_box(head);
+                let value = call.safe(black_box(register), &mut lent, &mut out);
+                (value, lent)
+            },
+            move || {
+                let mut lent = black_box(head);
+                let value = other_call.independent(black_box(register), &mut lent, &mut other_out);
+                (value, lent)
+            },
             || lent.iter().for_each(|subject| subject.hash_once()),
         )
     }
@@ -331,15 +342,19 @@ fn print_all_calls(count: usize, pairs: &[(&'static str, [Subject; 2])]) {
 
 /// Six calls on a pair of registers: check, put, screen and path are lent the first, merge and
 /// difference both. An output is just long enough, or as long as the first register where the call
-/// is refused. The screen is of a collection that both the ordinary registers and the accepted hard
-/// ones have, and the path leads into the midst of it.
+/// is refused. The head is that of the first register, where it is accepted. The screen is of a
+/// collection that both the ordinary registers and the accepted hard ones have, and the path leads
+/// into the midst of it.
 fn calls_on_pair<'a>([first, second]: [&'a [u8]; 2]) -> [Box<dyn FnMut() + 'a>; 6] {
+    let head = head_for(first);
     let write = |call: Call| -> Box<dyn FnMut() + 'a> {
         let mut out = vec![0; first.len() + second.len()];
-        let length = call.safe(first, &mut out).map_or(first.len(), length_in);
-        out.truncate(length);
+        let value = call.safe(first, &mut { head }, &mut out);
+        out.truncate(value.map_or(first.len(), length_in));
         Box::new(move || {
-            let _ = black_box(call.safe(black_box(first), &mut out));
+            let mut lent = black_box(head);
+            let _ = black_box(call.safe(black_box(first), &mut lent, &mut out));
+            black_box(lent);
         })
     };
     [
@@ -451,7 +466,9 @@ fn main() {
     println!(
         "the paths of {MOST_PATHS} keys or fewer, beside the digests of the path's pages. Outputs are"
     );
-    println!("just long enough. What is over its target is marked.\n");
+    println!(
+        "just long enough, and heads are taken beforehand. What is over its target is marked.\n"
+    );
     println!(
         "{:>7}  {:<27} {:>9} {:>9} {:>12} {:>10} {:>12}",
         "records", "call", "library", "hash-once", "independent", "/hash-once", "/independent"

@@ -6,9 +6,11 @@ mod common;
 mod subject;
 mod timing;
 
+use common::heads::head_of;
 use common::sets::{greatest_key, least_key, of_layer, part, Kind};
 use common::writes::Call;
 use independent::{table, Set};
+use mijdegen::Head;
 use std::hint::black_box;
 use subject::Subject;
 use timing::best_times;
@@ -18,6 +20,8 @@ struct Case {
     subject: usize,
     name: &'static str,
     register: Vec<u8>,
+    /// The register's head, which each call is lent.
+    head: Head,
     call: Call,
     /// The length of the result, and of the output.
     length: usize,
@@ -26,18 +30,34 @@ struct Case {
 impl Case {
     fn new(subject: usize, name: &'static str, set: &Set, call: Call, result: &Set) -> Case {
         let (register, expected) = (table(set), table(result));
+        let (head, length) = (head_of(set), Ok(expected.len()));
         let mut out = vec![0; expected.len()];
-        assert_eq!(call.safe(&register, &mut out), Ok(expected.len()));
+        assert_eq!(call.safe(&register, &mut { head }, &mut out), length);
         assert!(out == expected);
-        assert_eq!(call.independent(&register, &mut out), Ok(expected.len()));
+        assert_eq!(call.independent(&register, &mut { head }, &mut out), length);
         assert!(out == expected);
         Case {
             subject,
             name,
             register,
+            head,
             call,
             length: expected.len(),
         }
+    }
+
+    /// Calls the library. The head is lent as it was taken beforehand.
+    fn write(&self, out: &mut [u8]) {
+        let mut head = black_box(self.head);
+        black_box(self.call.safe(black_box(&self.register), &mut head, out)).expect("room");
+        black_box(head);
+    }
+
+    /// Calls the independent crate.
+    fn independent_write(&self, out: &mut [u8]) {
+        let (register, mut head) = (black_box(&self.register), black_box(self.head));
+        black_box(self.call.independent(register, &mut head, out)).expect("room");
+        black_box(head);
     }
 
     /// Five calls, all but remove with the subject as their result.
@@ -92,13 +112,9 @@ fn main() {
     }
     for case in &cases {
         let mut out = vec![0; case.length];
-        owned.push(Box::new(move || {
-            black_box(case.call.safe(black_box(&case.register), &mut out)).expect("room");
-        }));
+        owned.push(Box::new(move || case.write(&mut out)));
         let mut out = vec![0; case.length];
-        owned.push(Box::new(move || {
-            black_box(case.call.independent(black_box(&case.register), &mut out)).expect("room");
-        }));
+        owned.push(Box::new(move || case.independent_write(&mut out)));
     }
     let mut tasks: Vec<&mut dyn FnMut()> = Vec::new();
     for task in &mut owned {
@@ -111,11 +127,9 @@ fn main() {
     println!("Hash-once is the library's digest of each page and each key, once each, of the");
     println!("register of 4,096 records: that which put and merge give, and run, join and remove");
     println!("take. A run is of the whole register. A merge is of two registers of 2,048 records");
-    println!("with no key in common. The output is just long enough. The last two columns are the");
-    println!(
-        "library's nanoseconds for each byte of the result, and these beside the same call on"
-    );
-    println!("ordinary records.\n");
+    println!("with no key in common. The output is just long enough, and the head is taken");
+    println!("beforehand. The last two columns are the library's nanoseconds for each byte of the");
+    println!("result, and these beside the same call on ordinary records.\n");
     println!(
         "{:<31} {:<26} {:>7} {:>9} {:>9} {:>12} {:>10} {:>12} {:>8} {:>9}",
         "register",

@@ -1,9 +1,10 @@
-//! Keeps a tablet and a store in step: each is sent the difference of the other and merges it.
-//! At the end both root digests are the same.
+//! Keeps a tablet and a store in step: each is sent the difference of the other and merges it. Each
+//! keeps the head of its register, so that its count and its root digest are at hand after every
+//! call. At the end both heads are the same.
 //!
 //!     cargo run --release --example in_step
 
-use mijdegen::{check, difference, digest, merge, put, Digest, Refusal, LONGEST};
+use mijdegen::{check, difference, digest, merge, put, Head, Refusal, LONGEST};
 
 /// The empty register is one page without entries and without a link.
 const EMPTY: &[u8] = b"\xa2\x61e\x80\x61l\xf6";
@@ -11,62 +12,83 @@ const EMPTY: &[u8] = b"\xa2\x61e\x80\x61l\xf6";
 fn main() -> Result<(), Refusal> {
     // Both know 500 records. Then the tablet writes 4 more and the store 3 more, and one record
     // is written anew on both sides: the greater of its two values will be kept.
-    let mut tablet = EMPTY.to_vec();
+    let mut tablet = Kept::new(EMPTY)?;
     for number in 0..500 {
-        tablet = with(&tablet, &format!("visit/{number:04}"), "known to both")?;
+        tablet.put(&format!("visit/{number:04}"), "known to both")?;
     }
     let mut store = tablet.clone();
     for name in ["visit/0500", "visit/0501", "note/a", "note/b", "visit/0123"] {
-        tablet = with(&tablet, name, "from the tablet")?;
+        tablet.put(name, "from the tablet")?;
     }
     for name in ["visit/0502", "list/x", "list/y", "visit/0123"] {
-        store = with(&store, name, "from the store")?;
+        store.put(name, "from the store")?;
     }
-    tell("the tablet", &tablet)?;
-    tell("the store", &store)?;
+    tell("the tablet", &tablet);
+    tell("the store", &store);
 
     let to_tablet = sent("the tablet", &tablet, "the store", &store)?;
     let to_store = sent("the store", &store, "the tablet", &tablet)?;
-    tablet = written(|out| merge(&tablet, &to_tablet, out))?;
-    store = written(|out| merge(&store, &to_store, out))?;
+    tablet.merge(&to_tablet)?;
+    store.merge(&to_store)?;
 
-    tell("the tablet", &tablet)?;
-    tell("the store", &store)?;
-    assert_eq!(root_digest(&tablet)?, root_digest(&store)?);
-    assert_eq!(tablet, store);
+    tell("the tablet", &tablet);
+    tell("the store", &store);
+    assert_eq!(tablet.head, store.head);
+    assert_eq!(tablet.register, store.register);
     Ok(())
 }
 
-/// Gives the register with the record, whose block is this text.
-fn with(register: &[u8], key: &str, block: &str) -> Result<Vec<u8>, Refusal> {
-    let value = digest(block.as_bytes())?;
-    written(|out| put(register, key.as_bytes(), &value, out))
+/// A register, with its head beside it.
+#[derive(Clone)]
+struct Kept {
+    register: Vec<u8>,
+    head: Head,
+}
+
+impl Kept {
+    /// Keeps a register that comes from elsewhere: its head is told by a check.
+    fn new(register: &[u8]) -> Result<Kept, Refusal> {
+        Ok(Kept {
+            register: register.to_vec(),
+            head: check(register)?,
+        })
+    }
+
+    /// Puts a record, whose block is this text. The head moves on with the register.
+    fn put(&mut self, key: &str, block: &str) -> Result<(), Refusal> {
+        let value = digest(block.as_bytes())?;
+        self.register =
+            written(|out| put(&self.register, &mut self.head, key.as_bytes(), &value, out))?;
+        Ok(())
+    }
+
+    /// Merges the records of another register.
+    fn merge(&mut self, other: &[u8]) -> Result<(), Refusal> {
+        self.register = written(|out| merge(&self.register, &mut self.head, other, out))?;
+        Ok(())
+    }
 }
 
 /// Gives the records that the one lacks of the other, and says how much is sent.
-fn sent(one: &str, held: &[u8], other: &str, whole: &[u8]) -> Result<Vec<u8>, Refusal> {
+fn sent(one: &str, held: &Kept, other: &str, whole: &Kept) -> Result<Vec<u8>, Refusal> {
     let mut opened = 0;
     let lacking = written(|out| {
-        let found = difference(held, whole, out)?;
+        let found = difference(&held.register, &whole.register, out)?;
         opened = found.opened;
         Ok(found.length)
     })?;
     println!(
         "{one} is sent {} records in {} bytes, where {other} has {} bytes; pages opened: {opened}",
-        check(&lacking)?,
+        check(&lacking)?.count,
         lacking.len(),
-        whole.len(),
+        whole.register.len(),
     );
     Ok(lacking)
 }
 
 /// Says what a register holds.
-fn tell(name: &str, register: &[u8]) -> Result<(), Refusal> {
-    let root = root_digest(register)?;
-    let root: String = root.iter().map(|byte| format!("{byte:02x}")).collect();
-    let (count, length) = (check(register)?, register.len());
-    println!("{name} has {count} records in {length} bytes, root digest {root}");
-    Ok(())
+fn tell(name: &str, kept: &Kept) {
+    println!("{name} has {} bytes: {}", kept.register.len(), kept.head);
 }
 
 /// Gives what a call writes. An output of this length has room for each register.
@@ -75,35 +97,4 @@ fn written(call: impl FnOnce(&mut [u8]) -> Result<usize, Refusal>) -> Result<Vec
     let length = call(&mut out)?;
     out.truncate(length);
     Ok(out)
-}
-
-/// Gives the digest of the root page, which is the first page of an accepted register.
-fn root_digest(register: &[u8]) -> Result<Digest, Refusal> {
-    let (entries, mut place) = number(register, 3);
-    for _ in 0..entries {
-        // The remainder of the key, the prefix length, the link of the gap and the value.
-        let (remainder, after) = number(register, place + 3);
-        let (_, after) = number(register, after + remainder + 2);
-        let after = behind_link(register, after + 2);
-        place = behind_link(register, after + 2);
-    }
-    digest(&register[..behind_link(register, place + 2)])
-}
-
-/// Reads a number, and gives the place behind it as well.
-fn number(register: &[u8], place: usize) -> (usize, usize) {
-    let byte = |more: usize| usize::from(register[place + more]);
-    match byte(0) % 32 {
-        24 => (byte(1), place + 2),
-        25 => (256 * byte(1) + byte(2), place + 3),
-        small => (small, place + 1),
-    }
-}
-
-/// Gives the place behind a link of 41 bytes, or behind the one byte that stands for none.
-fn behind_link(register: &[u8], place: usize) -> usize {
-    match register[place] {
-        0xf6 => place + 1,
-        _ => place + 41,
-    }
 }

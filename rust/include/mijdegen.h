@@ -9,6 +9,9 @@
  * pointer and a length too, or a pointer to 32 bytes. Where a length is 0, the pointer is neither
  * read nor written. An output must share no byte with an input or with another output.
  *
+ * A head is a pointer to a struct mijdegen_head, at an address that 4 divides, as compilers place
+ * one. It is read and written, and must share no byte with an input or an output.
+ *
  * The key rule: a key has 3 to 256 bytes, with just one slash and at least one byte on each side of
  * it. The other bytes are ASCII letters, digits, '.', '-', '_', ':' and '~'. The part before the
  * slash is the collection, the part after it the name. The name is neither "." nor "..": "a/." and
@@ -82,8 +85,28 @@ enum mijdegen_refusal {
     MIJDEGEN_NO_SUCH_SCREEN = 15,
     /* The digest of a path's page is not the one due: that of the root, or that in the link by
      * which the search goes on. */
-    MIJDEGEN_PAGE_NOT_DUE = 16
+    MIJDEGEN_PAGE_NOT_DUE = 16,
+    /* A lent head is untrue of its register, in its count, its layer or its digest. */
+    MIJDEGEN_UNTRUE_HEAD = 17
 };
+
+/*
+ * The head of a register: one small record that a caller keeps beside it, so as not to count and
+ * hash again. mijdegen_check writes it. mijdegen_put, mijdegen_join, mijdegen_remove and
+ * mijdegen_merge are lent it and move it on to the register that they write. A head is true of a
+ * register when all three fields are.
+ */
+struct mijdegen_head {
+    /* The count of the records, from 0 to 4,096. */
+    uint32_t count;
+    /* The layer of the root: the highest layer of any key, and 0 where there are no records. */
+    uint32_t layer;
+    /* The SHA-256 digest of the root page, which is the first page of the register. */
+    uint8_t digest[MIJDEGEN_DIGEST_LENGTH];
+};
+
+/* It has 40 bytes, so that none stand between the fields: otherwise this line does not compile. */
+typedef char mijdegen_head_has_40_bytes[sizeof(struct mijdegen_head) == 40 ? 1 : -1];
 
 /* The number of an answer: 0, or one of enum mijdegen_refusal. */
 static inline unsigned mijdegen_number(uint64_t answer)
@@ -140,13 +163,13 @@ uint64_t mijdegen_layer(const uint8_t *input, size_t input_len);
 uint64_t mijdegen_slash(const uint8_t *key, size_t key_len);
 
 /*
- * Checks the register.
+ * Checks the register and writes its head. What stood at head before is not read.
  *
- * The number of the answer is 0 and its value is the count of the records, from 0 to 4,096. The
- * answer of a refused register is one of 1 to 10, from MIJDEGEN_TOO_LONG to
- * MIJDEGEN_WRONG_DIGEST: the first that holds for the whole register, in this order.
+ * The answer is 0. The answer of a refused register is one of 1 to 10, from MIJDEGEN_TOO_LONG to
+ * MIJDEGEN_WRONG_DIGEST: the first that holds for the whole register, in this order; then the 40
+ * bytes at head are zeros.
  */
-uint64_t mijdegen_check(const uint8_t *reg, size_t reg_len);
+uint64_t mijdegen_check(const uint8_t *reg, size_t reg_len, struct mijdegen_head *head);
 
 /*
  * Looks for the record with the key.
@@ -206,7 +229,8 @@ uint64_t mijdegen_before(const uint8_t *reg, size_t reg_len, const uint8_t *key,
  * Otherwise the answer is the first of these numbers that is due, and out is wholly zero:
  *
  *   - the number of mijdegen_check for the first register, 1 to 10;
- *   - that for the second register, 1 to 10;
+ *   - MIJDEGEN_UNTRUE_HEAD where a head is lent and is not that of the first register;
+ *   - the number of mijdegen_check for the second register, 1 to 10;
  *   - MIJDEGEN_UNLAWFUL_KEY where the key breaks the key rule; of two keys the first is judged
  *     before the last; also where the collection stands before the slash in no lawful key;
  *   - MIJDEGEN_FIRST_AFTER_LAST where the first key is greater than the last;
@@ -219,6 +243,11 @@ uint64_t mijdegen_before(const uint8_t *reg, size_t reg_len, const uint8_t *key,
  * A result that equals the register is measured and written as any other. The inputs are never
  * written and may share bytes with each other. No byte of out may be a byte of an input: to change
  * a register, write the next one to another buffer.
+ *
+ * Four of the functions are lent a head: mijdegen_put, mijdegen_join, mijdegen_remove and
+ * mijdegen_merge. It is the head of the register, and for mijdegen_merge that of the first one,
+ * as mijdegen_check or the call before has left it. Where the call is done, it is the head of the
+ * register at out afterwards; where the call is refused, it is as it was lent.
  */
 
 /*
@@ -232,28 +261,30 @@ uint64_t mijdegen_run(const uint8_t *reg, size_t reg_len, const uint8_t *first, 
 /*
  * Gives the key the value, whether a record has the key already or not.
  */
-uint64_t mijdegen_put(const uint8_t *reg, size_t reg_len, const uint8_t *key, size_t key_len,
-                      const uint8_t *value, size_t value_len, uint8_t *out, size_t out_len);
+uint64_t mijdegen_put(const uint8_t *reg, size_t reg_len, struct mijdegen_head *head,
+                      const uint8_t *key, size_t key_len, const uint8_t *value, size_t value_len,
+                      uint8_t *out, size_t out_len);
 
 /*
  * Gives the key the value as mijdegen_put does; but where a record has the key already, the
  * greater of the two values is kept, compared byte by byte from the first.
  */
-uint64_t mijdegen_join(const uint8_t *reg, size_t reg_len, const uint8_t *key, size_t key_len,
-                       const uint8_t *value, size_t value_len, uint8_t *out, size_t out_len);
+uint64_t mijdegen_join(const uint8_t *reg, size_t reg_len, struct mijdegen_head *head,
+                       const uint8_t *key, size_t key_len, const uint8_t *value, size_t value_len,
+                       uint8_t *out, size_t out_len);
 
 /*
  * Takes the record with the key away.
  */
-uint64_t mijdegen_remove(const uint8_t *reg, size_t reg_len, const uint8_t *key, size_t key_len,
-                         uint8_t *out, size_t out_len);
+uint64_t mijdegen_remove(const uint8_t *reg, size_t reg_len, struct mijdegen_head *head,
+                         const uint8_t *key, size_t key_len, uint8_t *out, size_t out_len);
 
 /*
  * Joins all records of the second register into the first, each as mijdegen_join does. What is
  * written is the same whichever of the two is the first.
  */
-uint64_t mijdegen_merge(const uint8_t *first, size_t first_len, const uint8_t *second,
-                        size_t second_len, uint8_t *out, size_t out_len);
+uint64_t mijdegen_merge(const uint8_t *first, size_t first_len, struct mijdegen_head *head,
+                        const uint8_t *second, size_t second_len, uint8_t *out, size_t out_len);
 
 /*
  * Writes the register of what the second register holds and the first does not: all records in
@@ -326,9 +357,8 @@ uint64_t mijdegen_path(const uint8_t *reg, size_t reg_len, const uint8_t *key, s
 /*
  * Says by the pages of a path whether the key is present in the register of a root digest, and with
  * which value. No register is needed. The path holds just the pages that a search for the key
- * opens, as mijdegen_path writes them. The root digest is that of the root page, which is the first
- * page of the register and of every path from it. Where a search ends in the root page, the path is
- * this page alone; a register of one page is its own root page.
+ * opens, as mijdegen_path writes them. The root digest stands in the register's head: it is that of
+ * the root page, which is the first page of the register and of every path from it.
  *
  * The number of the answer is 0. Its value is 0 where the key is absent, and else the place in the
  * path, counted from 0, where the 32 bytes of the key's value begin. Otherwise the answer is

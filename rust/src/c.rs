@@ -1,11 +1,14 @@
 //! The C functions of the library, as `include/mijdegen.h` declares them. A pointer to bytes comes
 //! with their number.
 
+// The tests compile this file as a module of their own.
+use super::Head;
+
 extern "C" {
     pub fn mijdegen_digest(input: *const u8, input_len: usize, out: *mut [u8; 32]) -> u64;
     pub fn mijdegen_layer(input: *const u8, input_len: usize) -> u64;
     pub fn mijdegen_slash(key: *const u8, key_len: usize) -> u64;
-    pub fn mijdegen_check(reg: *const u8, reg_len: usize) -> u64;
+    pub fn mijdegen_check(reg: *const u8, reg_len: usize, head: *mut Head) -> u64;
     pub fn mijdegen_lookup(reg: *const u8, reg_len: usize, key: *const u8, key_len: usize) -> u64;
     pub fn mijdegen_list(
         reg: *const u8,
@@ -46,6 +49,7 @@ extern "C" {
     pub fn mijdegen_put(
         reg: *const u8,
         reg_len: usize,
+        head: *mut Head,
         key: *const u8,
         key_len: usize,
         value: *const u8,
@@ -56,6 +60,7 @@ extern "C" {
     pub fn mijdegen_join(
         reg: *const u8,
         reg_len: usize,
+        head: *mut Head,
         key: *const u8,
         key_len: usize,
         value: *const u8,
@@ -66,6 +71,7 @@ extern "C" {
     pub fn mijdegen_remove(
         reg: *const u8,
         reg_len: usize,
+        head: *mut Head,
         key: *const u8,
         key_len: usize,
         out: *mut u8,
@@ -74,6 +80,7 @@ extern "C" {
     pub fn mijdegen_merge(
         first: *const u8,
         first_len: usize,
+        head: *mut Head,
         second: *const u8,
         second_len: usize,
         out: *mut u8,

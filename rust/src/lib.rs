@@ -35,19 +35,65 @@
 //!
 //! Keys are ordered byte by byte; a key stands before every longer key that begins with it.
 //!
+//! # Heads
+//!
+//! A [`Head`] is one small record that a caller keeps beside a register: the count of its records,
+//! the layer of its root and the digest of its root page. [`check`] gives it. [`put`], [`join`],
+//! [`remove`] and [`merge`] are lent it: after a call that is not refused it is the head of the
+//! register that was written, and after a refused one it is as it was. So it goes along with the
+//! register from call to call:
+//!
+//! ```
+//! use mijdegen::{check, put, remove, Refusal};
+//!
+//! let empty = b"\xa2\x61e\x80\x61l\xf6";
+//! let start = check(empty)?;
+//! assert_eq!((start.count, start.layer), (0, 0));
+//!
+//! let mut head = start;
+//! let (mut one, mut two, mut left) = ([0; 64], [0; 200], [0; 64]);
+//! put(empty, &mut head, b"a/b1", &[0x11; 32], &mut one)?;
+//! assert_eq!((head.count, head.layer), (1, 0));
+//!
+//! // The key `a/b2` has layer 1, so the root rises.
+//! let length = put(&one, &mut head, b"a/b2", &[0x22; 32], &mut two)?;
+//! let two = &two[..length];
+//! assert_eq!((head.count, head.layer), (2, 1));
+//! assert_eq!(check(two), Ok(head));
+//!
+//! // A refused call leaves the head as it was.
+//! let before = head;
+//! let refused = remove(two, &mut head, b"a/b3", &mut left);
+//! assert_eq!(refused, Err(Refusal::KeyAbsent));
+//! assert_eq!(head, before);
+//!
+//! // With the last key of its layer the root falls again.
+//! remove(two, &mut head, b"a/b2", &mut left)?;
+//! assert_eq!(left, one);
+//! assert_eq!((head.count, head.layer), (1, 0));
+//!
+//! // The head of another register is refused.
+//! let mut other = start;
+//! let refused = remove(&one, &mut other, b"a/b1", &mut left);
+//! assert_eq!(refused, Err(Refusal::UntrueHead));
+//! assert_eq!(other, start);
+//! # Ok::<(), Refusal>(())
+//! ```
+//!
 //! # Paths
 //!
-//! The root digest of a register is the [`digest`] of its root page, the first page of its table.
-//! One who holds no more than these 32 bytes can be shown what the register says of a key: [`path`]
-//! writes the pages that a search for the key opens, and [`verify`] says by them whether the key is
-//! present, and with which value.
+//! The root digest of a register is the [`digest`] of its root page, the first page of its table;
+//! it stands in the register's head. One who holds no more than these 32 bytes can be shown what
+//! the register says of a key: [`path`] writes the pages that a search for the key opens, and
+//! [`verify`] says by them whether the key is present, and with which value.
 //!
 //! # Costs
 //!
 //! Each call that takes a register judges it whole, so its time grows with the register's length:
 //! each page and each key is hashed once. Going through a register of n records by [`list`],
 //! [`at_or_after`] or [`before`] costs n such judgements, and n calls of [`lookup`] or [`put`] the
-//! same. A writing call hashes the pages that it writes as well. [`screen`] judges the register
+//! same. A writing call hashes the pages that it writes as well. A lent head spares no judgement:
+//! it is there for its reader, who need not count or hash again. [`screen`] judges the register
 //! once and writes at most 8 records: going through a collection by its screens costs one judgement
 //! for every 8 records. [`path`] costs one judgement too, and copies the pages that it writes.
 //!
@@ -65,12 +111,14 @@
 #![deny(unsafe_code)]
 
 mod c;
+mod head;
 mod refusal;
 #[allow(unsafe_code)]
 mod sys;
 
 use core::ops::RangeInclusive;
 
+pub use head::Head;
 pub use refusal::Refusal;
 
 /// The length in bytes of the longest register, of the longest path, and of the longest input that
@@ -197,7 +245,8 @@ pub fn split(key: &[u8]) -> Result<Split<'_>, Refusal> {
     })
 }
 
-/// Checks the register and gives the count of its records.
+/// Checks the register and gives its head: the count of its records, the layer of its root and the
+/// digest of its root page.
 ///
 /// A register is the page table of a set of records: each set has just one, and no other bytes
 /// are accepted.
@@ -210,17 +259,26 @@ pub fn split(key: &[u8]) -> Result<Split<'_>, Refusal> {
 /// # Examples
 ///
 /// ```
-/// use mijdegen::{check, Refusal};
+/// use mijdegen::{check, digest, Refusal};
 ///
-/// // The empty register is one page without entries and without a link.
+/// // The empty register is one page without entries and without a link. It is its own root page.
 /// let mut register = b"\xa2\x61e\x80\x61l\xf6".to_vec();
-/// assert_eq!(check(&register), Ok(0));
+/// let head = check(&register)?;
+/// assert_eq!((head.count, head.layer), (0, 0));
+/// assert_eq!(head.digest, digest(&register)?);
 ///
 /// register.push(0xf6);
 /// assert_eq!(check(&register), Err(Refusal::BytesFollow));
+/// # Ok::<(), Refusal>(())
 /// ```
-pub fn check(register: &[u8]) -> Result<usize, Refusal> {
-    Ok(count(outcome(sys::check(register))?))
+pub fn check(register: &[u8]) -> Result<Head, Refusal> {
+    let mut head = Head {
+        count: 0,
+        layer: 0,
+        digest: [0; 32],
+    };
+    outcome(sys::check(register, &mut head))?;
+    Ok(head)
 }
 
 /// Gives the value of the key, as a part of the lent register.
@@ -346,12 +404,13 @@ pub fn list(register: &[u8], n: usize, out: &mut [u8]) -> Result<Option<Listed>,
 /// # Examples
 ///
 /// ```
-/// use mijdegen::{at_or_after, put, Refusal, LONGEST_KEY};
+/// use mijdegen::{at_or_after, check, put, Refusal, LONGEST_KEY};
 ///
 /// let empty = b"\xa2\x61e\x80\x61l\xf6";
 /// let (mut one, mut two) = ([0; 64], [0; 200]);
-/// put(empty, b"a/b1", &[0x11; 32], &mut one)?;
-/// let length = put(&one, b"a/b30", &[0x33; 32], &mut two)?;
+/// let mut head = check(empty)?;
+/// put(empty, &mut head, b"a/b1", &[0x11; 32], &mut one)?;
+/// let length = put(&one, &mut head, b"a/b30", &[0x33; 32], &mut two)?;
 /// let register = &two[..length];
 ///
 /// let mut out = [0; LONGEST_KEY];
@@ -395,12 +454,13 @@ pub fn at_or_after(register: &[u8], key: &[u8], out: &mut [u8]) -> Result<Listed
 /// # Examples
 ///
 /// ```
-/// use mijdegen::{before, put, Refusal, LONGEST_KEY};
+/// use mijdegen::{before, check, put, Refusal, LONGEST_KEY};
 ///
 /// let empty = b"\xa2\x61e\x80\x61l\xf6";
 /// let (mut one, mut two) = ([0; 64], [0; 200]);
-/// put(empty, b"a/b1", &[0x11; 32], &mut one)?;
-/// let length = put(&one, b"a/b30", &[0x33; 32], &mut two)?;
+/// let mut head = check(empty)?;
+/// put(empty, &mut head, b"a/b1", &[0x11; 32], &mut one)?;
+/// let length = put(&one, &mut head, b"a/b30", &[0x33; 32], &mut two)?;
 /// let register = &two[..length];
 ///
 /// let mut out = [0; LONGEST_KEY];
@@ -448,15 +508,16 @@ pub fn before(register: &[u8], key: &[u8], out: &mut [u8]) -> Result<Listed, Ref
 ///
 /// let empty = b"\xa2\x61e\x80\x61l\xf6";
 /// let (mut register, mut next) = (empty.to_vec(), vec![0; 300]);
+/// let mut head = check(empty)?;
 /// for (key, value) in [(b"a/b1", 0x11), (b"a/b2", 0x22), (b"a/b3", 0x33)] {
-///     let length = put(&register, key, &[value; 32], &mut next)?;
+///     let length = put(&register, &mut head, key, &[value; 32], &mut next)?;
 ///     register = next[..length].to_vec();
 /// }
 ///
 /// // The record of the last key is included.
 /// let mut out = [0xaa; 300];
 /// let length = run(&register, b"a/b2"..=b"a/b3", &mut out)?;
-/// assert_eq!(check(&out[..length]), Ok(2));
+/// assert_eq!(check(&out[..length])?.count, 2);
 /// assert_eq!(lookup(&out[..length], b"a/b3"), Ok(&[0x33; 32]));
 /// assert!(out[length..].iter().all(|byte| *byte == 0));
 ///
@@ -494,24 +555,29 @@ pub fn run<K: AsRef<[u8]>>(
 /// The table stands at the start of the output, with zeros after it. On refusal the output is
 /// zero. A value is the SHA-256 digest of the record's block, but any 32 bytes are taken.
 ///
+/// The head is that of the register. Afterwards it is that of the register which was written; on
+/// refusal it is as it was lent.
+///
 /// # Errors
 ///
-/// One of the refusals 1 to 10 where [`check`] refuses the register; then
-/// [`Refusal::UnlawfulKey`] where the key breaks the key rule, [`Refusal::ValueLength`] where the
-/// value is not 32 bytes, [`Refusal::TooManyRecords`] where the result has more than 4,096
-/// records, and [`Refusal::NoRoom`] where its table is longer than the output, or than
-/// [`LONGEST`] bytes.
+/// One of the refusals 1 to 10 where [`check`] refuses the register; then [`Refusal::UntrueHead`]
+/// where the head is not the one that [`check`] gives, [`Refusal::UnlawfulKey`] where the key
+/// breaks the key rule, [`Refusal::ValueLength`] where the value is not 32 bytes,
+/// [`Refusal::TooManyRecords`] where the result has more than 4,096 records, and
+/// [`Refusal::NoRoom`] where its table is longer than the output, or than [`LONGEST`] bytes.
 ///
 /// # Examples
 ///
 /// ```
-/// use mijdegen::{put, Refusal};
+/// use mijdegen::{check, put, Refusal};
 ///
 /// // The empty register is one page without entries and without a link. Puts into it reach any
 /// // set of records.
 /// let empty = b"\xa2\x61e\x80\x61l\xf6";
-/// let mut out = [0; 64];
-/// assert_eq!(put(empty, b"a/b1", &[0x11; 32], &mut out), Ok(64));
+/// let start = check(empty)?;
+/// let (mut head, mut out) = (start, [0; 64]);
+/// assert_eq!(put(empty, &mut head, b"a/b1", &[0x11; 32], &mut out), Ok(64));
+/// assert_eq!(head.count, 1);
 ///
 /// // One page with one entry: key `a/b1`, prefix 0, no link, and the value as a link.
 /// let mut expected = b"\xa2\x61e\x81\xa4\x61k\x44a/b1\x61p\x00\x61t\xf6\x61v".to_vec();
@@ -520,22 +586,36 @@ pub fn run<K: AsRef<[u8]>>(
 /// expected.extend(b"\x61l\xf6");
 /// assert_eq!(out[..], expected);
 ///
+/// // The head has moved on, and is no longer that of the empty register.
+/// let refused = put(empty, &mut head, b"a/b1", &[0x11; 32], &mut out);
+/// assert_eq!(refused, Err(Refusal::UntrueHead));
+///
 /// // 63 bytes are too few.
-/// let refused = put(empty, b"a/b1", &[0x11; 32], &mut out[..63]);
+/// let mut head = start;
+/// let refused = put(empty, &mut head, b"a/b1", &[0x11; 32], &mut out[..63]);
 /// assert_eq!(refused, Err(Refusal::NoRoom));
 /// assert_eq!(out[..63], [0; 63]);
+/// assert_eq!(head, start);
 ///
-/// let refused = put(empty, b"a/b1", &[0x11; 31], &mut out);
+/// let refused = put(empty, &mut head, b"a/b1", &[0x11; 31], &mut out);
 /// assert_eq!(refused, Err(Refusal::ValueLength));
+/// # Ok::<(), Refusal>(())
 /// ```
-pub fn put(register: &[u8], key: &[u8], value: &[u8], out: &mut [u8]) -> Result<usize, Refusal> {
-    Ok(count(outcome(sys::put(register, key, value, out))?))
+pub fn put(
+    register: &[u8],
+    head: &mut Head,
+    key: &[u8],
+    value: &[u8],
+    out: &mut [u8],
+) -> Result<usize, Refusal> {
+    Ok(count(outcome(sys::put(register, head, key, value, out))?))
 }
 
 /// Writes the register with the record, where a present key keeps the greater of two values. Gives
 /// the length of its table.
 ///
-/// Values are compared byte by byte from the first. The output is written as by [`put`].
+/// Values are compared byte by byte from the first. The output is written, and the head moves on,
+/// as by [`put`].
 ///
 /// # Errors
 ///
@@ -544,66 +624,85 @@ pub fn put(register: &[u8], key: &[u8], value: &[u8], out: &mut [u8]) -> Result<
 /// # Examples
 ///
 /// ```
-/// use mijdegen::{join, lookup};
+/// use mijdegen::{check, join, lookup};
 ///
 /// let empty = b"\xa2\x61e\x80\x61l\xf6";
+/// let mut head = check(empty)?;
 /// let mut first = [0; 64];
 /// let mut second = [0; 64];
 ///
-/// assert_eq!(join(empty, b"a/b1", &[0x22; 32], &mut first), Ok(64));
-/// assert_eq!(join(&first, b"a/b1", &[0x11; 32], &mut second), Ok(64));
+/// assert_eq!(join(empty, &mut head, b"a/b1", &[0x22; 32], &mut first), Ok(64));
+/// assert_eq!(join(&first, &mut head, b"a/b1", &[0x11; 32], &mut second), Ok(64));
 /// assert_eq!(lookup(&second, b"a/b1"), Ok(&[0x22; 32]));
 ///
-/// assert_eq!(join(&second, b"a/b1", &[0x33; 32], &mut first), Ok(64));
+/// assert_eq!(join(&second, &mut head, b"a/b1", &[0x33; 32], &mut first), Ok(64));
 /// assert_eq!(lookup(&first, b"a/b1"), Ok(&[0x33; 32]));
+/// # Ok::<(), mijdegen::Refusal>(())
 /// ```
-pub fn join(register: &[u8], key: &[u8], value: &[u8], out: &mut [u8]) -> Result<usize, Refusal> {
-    Ok(count(outcome(sys::join(register, key, value, out))?))
+pub fn join(
+    register: &[u8],
+    head: &mut Head,
+    key: &[u8],
+    value: &[u8],
+    out: &mut [u8],
+) -> Result<usize, Refusal> {
+    Ok(count(outcome(sys::join(register, head, key, value, out))?))
 }
 
 /// Writes the register without the key's record. Gives the length of its table.
 ///
-/// The output is written as by [`put`].
+/// The output is written, and the head moves on, as by [`put`].
 ///
 /// # Errors
 ///
-/// One of the refusals 1 to 10 where [`check`] refuses the register; then
-/// [`Refusal::UnlawfulKey`] where the key breaks the key rule, [`Refusal::KeyAbsent`] where the
-/// register has no record with the key, and [`Refusal::NoRoom`] where the result's table is longer
-/// than the output, or than [`LONGEST`] bytes.
+/// One of the refusals 1 to 10 where [`check`] refuses the register; then [`Refusal::UntrueHead`]
+/// where the head is not the one that [`check`] gives, [`Refusal::UnlawfulKey`] where the key
+/// breaks the key rule, [`Refusal::KeyAbsent`] where the register has no record with the key, and
+/// [`Refusal::NoRoom`] where the result's table is longer than the output, or than [`LONGEST`]
+/// bytes.
 ///
 /// # Examples
 ///
 /// ```
-/// use mijdegen::{put, remove, Refusal};
+/// use mijdegen::{check, put, remove, Refusal};
 ///
 /// let empty = b"\xa2\x61e\x80\x61l\xf6";
+/// let mut head = check(empty)?;
 /// let mut register = [0; 64];
-/// put(empty, b"a/b1", &[0x11; 32], &mut register)?;
+/// put(empty, &mut head, b"a/b1", &[0x11; 32], &mut register)?;
 ///
 /// let mut out = [0xaa; 10];
-/// assert_eq!(remove(&register, b"a/b1", &mut out), Ok(7));
+/// assert_eq!(remove(&register, &mut head, b"a/b2", &mut out), Err(Refusal::KeyAbsent));
+/// assert_eq!(out, [0; 10]);
+///
+/// assert_eq!(remove(&register, &mut head, b"a/b1", &mut out), Ok(7));
 /// assert_eq!(out[..7], *empty);
 /// assert_eq!(out[7..], [0; 3]);
-///
-/// assert_eq!(remove(&register, b"a/b2", &mut out), Err(Refusal::KeyAbsent));
-/// assert_eq!(out, [0; 10]);
+/// assert_eq!(head, check(empty)?);
 /// # Ok::<(), Refusal>(())
 /// ```
-pub fn remove(register: &[u8], key: &[u8], out: &mut [u8]) -> Result<usize, Refusal> {
-    Ok(count(outcome(sys::remove(register, key, out))?))
+pub fn remove(
+    register: &[u8],
+    head: &mut Head,
+    key: &[u8],
+    out: &mut [u8],
+) -> Result<usize, Refusal> {
+    Ok(count(outcome(sys::remove(register, head, key, out))?))
 }
 
 /// Writes the first register with all records of the second joined. Gives the length of its table.
 ///
 /// Each record is joined as by [`join`], so what is written is the same whichever of the two is
-/// the first. The output is written as by [`put`].
+/// the first. The head is that of the first register. The output is written, and the head moves on,
+/// as by [`put`].
 ///
 /// # Errors
 ///
-/// One of the refusals 1 to 10 where [`check`] refuses the first register, then where it refuses
-/// the second; then [`Refusal::TooManyRecords`] where the result has more than 4,096 records, and
-/// [`Refusal::NoRoom`] where its table is longer than the output, or than [`LONGEST`] bytes.
+/// One of the refusals 1 to 10 where [`check`] refuses the first register, then
+/// [`Refusal::UntrueHead`] where the head is not the one that [`check`] gives for the first; then
+/// one of 1 to 10 where [`check`] refuses the second register, [`Refusal::TooManyRecords`] where
+/// the result has more than 4,096 records, and [`Refusal::NoRoom`] where its table is longer than
+/// the output, or than [`LONGEST`] bytes.
 ///
 /// # Examples
 ///
@@ -612,23 +711,31 @@ pub fn remove(register: &[u8], key: &[u8], out: &mut [u8]) -> Result<usize, Refu
 ///
 /// let empty = b"\xa2\x61e\x80\x61l\xf6";
 /// let (mut first, mut second) = ([0; 64], [0; 64]);
-/// put(empty, b"a/b1", &[0x11; 32], &mut first)?;
-/// put(empty, b"a/b2", &[0x22; 32], &mut second)?;
+/// let mut first_head = check(empty)?;
+/// let mut second_head = first_head;
+/// put(empty, &mut first_head, b"a/b1", &[0x11; 32], &mut first)?;
+/// put(empty, &mut second_head, b"a/b2", &[0x22; 32], &mut second)?;
 ///
 /// let mut merged = [0; 200];
-/// let length = merge(&first, &second, &mut merged)?;
+/// let length = merge(&first, &mut first_head, &second, &mut merged)?;
 /// let merged = &merged[..length];
-/// assert_eq!(check(merged), Ok(2));
+/// assert_eq!(first_head.count, 2);
 /// assert_eq!(lookup(merged, b"a/b1"), Ok(&[0x11; 32]));
 /// assert_eq!(lookup(merged, b"a/b2"), Ok(&[0x22; 32]));
 ///
 /// let mut other_way = [0; 200];
-/// assert_eq!(merge(&second, &first, &mut other_way), Ok(length));
+/// assert_eq!(merge(&second, &mut second_head, &first, &mut other_way), Ok(length));
 /// assert_eq!(other_way[..length], *merged);
+/// assert_eq!(second_head, first_head);
 /// # Ok::<(), Refusal>(())
 /// ```
-pub fn merge(first: &[u8], second: &[u8], out: &mut [u8]) -> Result<usize, Refusal> {
-    Ok(count(outcome(sys::merge(first, second, out))?))
+pub fn merge(
+    first: &[u8],
+    head: &mut Head,
+    second: &[u8],
+    out: &mut [u8],
+) -> Result<usize, Refusal> {
+    Ok(count(outcome(sys::merge(first, head, second, out))?))
 }
 
 /// What [`difference`] gives. The table stands at the start of the output.
@@ -660,13 +767,13 @@ pub struct Difference {
 /// # Examples
 ///
 /// ```
-/// use mijdegen::{difference, merge, put, Difference, Refusal};
+/// use mijdegen::{check, difference, merge, put, Difference, Refusal};
 ///
 /// let empty = b"\xa2\x61e\x80\x61l\xf6";
 /// let (mut first, mut only_b2, mut second) = ([0; 64], [0; 64], [0; 200]);
-/// put(empty, b"a/b1", &[0x11; 32], &mut first)?;
-/// put(empty, b"a/b2", &[0x22; 32], &mut only_b2)?;
-/// let length = put(&first, b"a/b2", &[0x22; 32], &mut second)?;
+/// put(empty, &mut check(empty)?, b"a/b1", &[0x11; 32], &mut first)?;
+/// put(empty, &mut check(empty)?, b"a/b2", &[0x22; 32], &mut only_b2)?;
+/// let length = put(&first, &mut check(&first)?, b"a/b2", &[0x22; 32], &mut second)?;
 /// let second = &second[..length];
 ///
 /// // The second has two pages. The lower one is the first register's only page, and known.
@@ -676,9 +783,10 @@ pub struct Difference {
 /// assert_eq!(out[..64], only_b2);
 /// assert_eq!(out[64..], [0; 6]);
 ///
-/// let mut merged = [0; 200];
-/// assert_eq!(merge(&first, &out[..64], &mut merged), Ok(length));
+/// let (mut head, mut merged) = (check(&first)?, [0; 200]);
+/// assert_eq!(merge(&first, &mut head, &out[..64], &mut merged), Ok(length));
 /// assert_eq!(merged[..length], *second);
+/// assert_eq!(head, check(second)?);
 ///
 /// // The other way round nothing is lacking: the only page is known.
 /// let found = difference(second, &first, &mut out)?;
@@ -751,8 +859,9 @@ pub struct Screen {
 /// let empty = b"\xa2\x61e\x80\x61l\xf6";
 /// let parts: Vec<String> = (0..10).map(|number| format!("part/b{number}")).collect();
 /// let (mut register, mut next) = (empty.to_vec(), vec![0; 3_000]);
+/// let mut head = check(empty)?;
 /// for key in parts.iter().map(String::as_str).chain(["part.old/b1", "parts/b1"]) {
-///     let length = put(&register, key.as_bytes(), &[0x11; 32], &mut next)?;
+///     let length = put(&register, &mut head, key.as_bytes(), &[0x11; 32], &mut next)?;
 ///     register = next[..length].to_vec();
 /// }
 ///
@@ -760,7 +869,7 @@ pub struct Screen {
 /// let (mut counts, mut keys) = (Vec::new(), Vec::new());
 /// for screen in screens(&register, b"part") {
 ///     let screen = screen?;
-///     let count = check(&screen)?;
+///     let count = check(&screen)?.count as usize;
 ///     for n in 0..count {
 ///         let mut key = [0; LONGEST_KEY];
 ///         let listed = list(&screen, n, &mut key)?.expect("n is less than the count");
@@ -818,12 +927,13 @@ pub fn screen(
 /// # Examples
 ///
 /// ```
-/// use mijdegen::{path, put, Refusal};
+/// use mijdegen::{check, path, put, Refusal};
 ///
 /// let empty = b"\xa2\x61e\x80\x61l\xf6";
 /// let (mut one, mut two) = ([0; 64], [0; 200]);
-/// put(empty, b"a/b1", &[0x11; 32], &mut one)?;
-/// let length = put(&one, b"a/b2", &[0x22; 32], &mut two)?;
+/// let mut head = check(empty)?;
+/// put(empty, &mut head, b"a/b1", &[0x11; 32], &mut one)?;
+/// let length = put(&one, &mut head, b"a/b2", &[0x22; 32], &mut two)?;
 /// let register = &two[..length];
 ///
 /// // The register has two pages: `a/b2` is an entry of the root page, and `a/b1` stands in the
@@ -866,10 +976,9 @@ pub enum Presence<'a> {
 /// with which value. No register is needed.
 ///
 /// The path holds just the pages that a search for the key opens, as [`path`] writes them. The root
-/// digest comes from one who has the register, before or apart from any path: it is the [`digest`]
-/// of the root page, which is the first page of the register and of every path from it. Where a
-/// search ends in the root page, the path is this page alone; a register of one page is its own
-/// root page.
+/// digest comes from one who has the register, before or apart from any path: it stands in the
+/// register's [`Head`], and is the [`digest`] of the root page, which is the first page of the
+/// register and of every path from it.
 ///
 /// The verdict agrees with [`lookup`] in every register of that root digest, provided no two
 /// unequal pages of the path and the register share a digest. With its key and its register's root
@@ -894,19 +1003,19 @@ pub enum Presence<'a> {
 /// # Examples
 ///
 /// ```
-/// use mijdegen::{digest, path, put, verify, Presence, Refusal};
+/// use mijdegen::{check, digest, path, put, verify, Presence, Refusal};
 ///
-/// // One who has the register takes the root digest. A search for `a/b2` ends in the root page.
+/// // One who has the register has the root digest in its head.
 /// let empty = b"\xa2\x61e\x80\x61l\xf6";
 /// let (mut one, mut two) = ([0; 64], [0; 200]);
-/// put(empty, b"a/b1", &[0x11; 32], &mut one)?;
-/// let length = put(&one, b"a/b2", &[0x22; 32], &mut two)?;
+/// let mut head = check(empty)?;
+/// put(empty, &mut head, b"a/b1", &[0x11; 32], &mut one)?;
+/// let length = put(&one, &mut head, b"a/b2", &[0x22; 32], &mut two)?;
 /// let register = &two[..length];
-/// let mut out = [0; 200];
-/// let length = path(register, b"a/b2", &mut out)?;
-/// let root = digest(&out[..length])?;
+/// let root = head.digest;
 ///
 /// // One who holds the root digest alone is sent the path of a key.
+/// let mut out = [0; 200];
 /// let length = path(register, b"a/b1", &mut out)?;
 /// let sent = &out[..length];
 /// let value = [0x11; 32];
@@ -989,7 +1098,7 @@ mod tests {
     }
 
     #[test]
-    fn numbers_1_to_16_give_the_refusal() {
+    fn numbers_1_to_17_give_the_refusal() {
         let refusals = [
             Refusal::TooLong,
             Refusal::EndsEarly,
@@ -1007,16 +1116,17 @@ mod tests {
             Refusal::FirstAfterLast,
             Refusal::NoSuchScreen,
             Refusal::PageNotDue,
+            Refusal::UntrueHead,
         ];
-        for (answer, refusal) in (1..=16).zip(refusals) {
+        for (answer, refusal) in (1..=17).zip(refusals) {
             assert_eq!(outcome(answer), Err(refusal));
         }
     }
 
     #[test]
-    #[should_panic(expected = "the library answered with the unknown number 17")]
-    fn number_17_panics() {
-        let _ = outcome(17);
+    #[should_panic(expected = "the library answered with the unknown number 18")]
+    fn number_18_panics() {
+        let _ = outcome(18);
     }
 
     #[test]

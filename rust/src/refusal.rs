@@ -43,15 +43,17 @@ pub enum Refusal {
     /// The digest of a path's page is not the one due: that of the root, or that in the link by
     /// which the search goes on.
     PageNotDue = 16,
+    /// A lent head is untrue of its register, in its count, its layer or its digest.
+    UntrueHead = 17,
 }
 
 impl Refusal {
-    /// Gives the number of the refusal, from 1 to 16.
+    /// Gives the number of the refusal, from 1 to 17.
     pub const fn number(self) -> u8 {
         self as u8
     }
 
-    /// Gives the refusal with this number, or none where the number is not from 1 to 16.
+    /// Gives the refusal with this number, or none where the number is not from 1 to 17.
     pub const fn from_number(number: u8) -> Option<Refusal> {
         Some(match number {
             1 => Refusal::TooLong,
@@ -70,6 +72,7 @@ impl Refusal {
             14 => Refusal::FirstAfterLast,
             15 => Refusal::NoSuchScreen,
             16 => Refusal::PageNotDue,
+            17 => Refusal::UntrueHead,
             _ => return None,
         })
     }
@@ -100,6 +103,7 @@ impl fmt::Display for Refusal {
             Refusal::FirstAfterLast => "the first key is greater than the last",
             Refusal::NoSuchScreen => "a screen number is at or past the number of screens",
             Refusal::PageNotDue => "the digest of a path's page is not the one due",
+            Refusal::UntrueHead => "the head is not that of the register it is lent with",
         })
     }
 }

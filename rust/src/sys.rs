@@ -2,10 +2,11 @@
 //! in this module; the functions are declared in `c`.
 //!
 //! What every call relies on: the library reads the bytes of its inputs, as many as their lengths
-//! say, and no others, writes the outputs it is lent and nothing else, keeps no pointer and no
-//! state from one call to the next, and returns from every call.
+//! say, and no others, writes the outputs and the heads it is lent and nothing else, keeps no
+//! pointer and no state from one call to the next, and returns from every call.
 
 use crate::c::*;
+use crate::Head;
 
 /// Writes the digest of the input, or zeros on refusal, and gives the answer.
 pub(crate) fn digest(input: &[u8], out: &mut [u8; 32]) -> u64 {
@@ -30,10 +31,11 @@ pub(crate) fn slash(key: &[u8]) -> u64 {
     unsafe { mijdegen_slash(key.as_ptr(), key.len()) }
 }
 
-/// Gives the answer that holds the count of the register's records.
-pub(crate) fn check(register: &[u8]) -> u64 {
-    // SAFETY: As for `layer`.
-    unsafe { mijdegen_check(register.as_ptr(), register.len()) }
+/// Writes the head of the register, or one of zeros on refusal, and gives the answer.
+pub(crate) fn check(register: &[u8], head: &mut Head) -> u64 {
+    // SAFETY: As for `layer`, but the head is written. It is one pointer to 40 bytes in the form of
+    // the library; being mutable, it shares no byte with the register.
+    unsafe { mijdegen_check(register.as_ptr(), register.len(), head) }
 }
 
 /// Gives the answer that holds the place of the key's value in the register.
@@ -103,7 +105,10 @@ pub(crate) fn before(register: &[u8], key: &[u8], out: &mut [u8], value: &mut [u
 /// Writes the register of the records from the first key up to and including the last, or zeros
 /// on refusal, and gives the answer that holds the table's length.
 pub(crate) fn run(register: &[u8], first: &[u8], last: &[u8], out: &mut [u8]) -> u64 {
-    // SAFETY: As for `put`.
+    // SAFETY: Each pointer and its length are of one slice, so that many bytes can be read, or
+    // written, for the whole call. The pointer of an empty slice may lead nowhere, but at length
+    // 0 it is neither read nor written. The inputs are only read, so they may share bytes. Being
+    // mutable, the output shares no byte with them.
     unsafe {
         mijdegen_run(
             register.as_ptr(),
@@ -118,17 +123,22 @@ pub(crate) fn run(register: &[u8], first: &[u8], last: &[u8], out: &mut [u8]) ->
     }
 }
 
-/// Writes the register in which the key has the value, or zeros on refusal, and gives the answer
-/// that holds the table's length.
-pub(crate) fn put(register: &[u8], key: &[u8], value: &[u8], out: &mut [u8]) -> u64 {
-    // SAFETY: Each pointer and its length are of one slice, so that many bytes can be read, or
-    // written, for the whole call. The pointer of an empty slice may lead nowhere, but at length
-    // 0 it is neither read nor written. The inputs are only read, so they may share bytes. Being
-    // mutable, the output shares no byte with them.
+/// Writes the register in which the key has the value, and its head, and gives the answer that
+/// holds the table's length. On refusal zeros are written, and the head stays as it is.
+pub(crate) fn put(
+    register: &[u8],
+    head: &mut Head,
+    key: &[u8],
+    value: &[u8],
+    out: &mut [u8],
+) -> u64 {
+    // SAFETY: As for `run`. The head is one pointer to 40 bytes in the form of the library, which
+    // can be read and written; being mutable, it shares no byte with the output or an input.
     unsafe {
         mijdegen_put(
             register.as_ptr(),
             register.len(),
+            head,
             key.as_ptr(),
             key.len(),
             value.as_ptr(),
@@ -139,14 +149,20 @@ pub(crate) fn put(register: &[u8], key: &[u8], value: &[u8], out: &mut [u8]) -> 
     }
 }
 
-/// Writes the register with the record joined, or zeros on refusal, and gives the answer that
-/// holds the table's length.
-pub(crate) fn join(register: &[u8], key: &[u8], value: &[u8], out: &mut [u8]) -> u64 {
+/// Writes the register with the record joined, and its head, as `put` does.
+pub(crate) fn join(
+    register: &[u8],
+    head: &mut Head,
+    key: &[u8],
+    value: &[u8],
+    out: &mut [u8],
+) -> u64 {
     // SAFETY: As for `put`.
     unsafe {
         mijdegen_join(
             register.as_ptr(),
             register.len(),
+            head,
             key.as_ptr(),
             key.len(),
             value.as_ptr(),
@@ -157,14 +173,14 @@ pub(crate) fn join(register: &[u8], key: &[u8], value: &[u8], out: &mut [u8]) ->
     }
 }
 
-/// Writes the register without the key's record, or zeros on refusal, and gives the answer that
-/// holds the table's length.
-pub(crate) fn remove(register: &[u8], key: &[u8], out: &mut [u8]) -> u64 {
+/// Writes the register without the key's record, and its head, as `put` does.
+pub(crate) fn remove(register: &[u8], head: &mut Head, key: &[u8], out: &mut [u8]) -> u64 {
     // SAFETY: As for `put`.
     unsafe {
         mijdegen_remove(
             register.as_ptr(),
             register.len(),
+            head,
             key.as_ptr(),
             key.len(),
             out.as_mut_ptr(),
@@ -173,14 +189,15 @@ pub(crate) fn remove(register: &[u8], key: &[u8], out: &mut [u8]) -> u64 {
     }
 }
 
-/// Writes the first register with all records of the second joined, or zeros on refusal, and
-/// gives the answer that holds the table's length.
-pub(crate) fn merge(first: &[u8], second: &[u8], out: &mut [u8]) -> u64 {
+/// Writes the first register with all records of the second joined, and its head, as `put` does.
+/// The head that is lent is that of the first register.
+pub(crate) fn merge(first: &[u8], head: &mut Head, second: &[u8], out: &mut [u8]) -> u64 {
     // SAFETY: As for `put`.
     unsafe {
         mijdegen_merge(
             first.as_ptr(),
             first.len(),
+            head,
             second.as_ptr(),
             second.len(),
             out.as_mut_ptr(),
@@ -193,7 +210,7 @@ pub(crate) fn merge(first: &[u8], second: &[u8], out: &mut [u8]) -> u64 {
 /// zeros on refusal, and gives the answer that holds the table's length and the number of opened
 /// pages.
 pub(crate) fn difference(first: &[u8], second: &[u8], out: &mut [u8]) -> u64 {
-    // SAFETY: As for `put`.
+    // SAFETY: As for `run`.
     unsafe {
         mijdegen_difference(
             first.as_ptr(),
@@ -209,7 +226,7 @@ pub(crate) fn difference(first: &[u8], second: &[u8], out: &mut [u8]) -> u64 {
 /// Writes the register of the records on the n-th screen of the collection, or zeros on refusal,
 /// and gives the answer that holds the table's length and the number of screens.
 pub(crate) fn screen(register: &[u8], collection: &[u8], n: u64, out: &mut [u8]) -> u64 {
-    // SAFETY: As for `put`.
+    // SAFETY: As for `run`.
     unsafe {
         mijdegen_screen(
             register.as_ptr(),
@@ -226,7 +243,7 @@ pub(crate) fn screen(register: &[u8], collection: &[u8], n: u64, out: &mut [u8])
 /// Writes the pages that a search for the key opens in the register, or zeros on refusal, and gives
 /// the answer that holds the length of the path.
 pub(crate) fn path(register: &[u8], key: &[u8], out: &mut [u8]) -> u64 {
-    // SAFETY: As for `put`.
+    // SAFETY: As for `run`.
     unsafe {
         mijdegen_path(
             register.as_ptr(),

@@ -8,6 +8,7 @@ mod digest;
 mod documents;
 mod dot_names;
 mod fuzz;
+mod head;
 mod header;
 mod layer;
 mod limits;

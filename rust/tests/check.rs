@@ -1,7 +1,8 @@
 //! `check` of accepted registers, and of inputs that are no register at all.
 
-use crate::common::calls::{mijdegen_check, number_of, raw_check};
+use crate::common::calls::{count_of, mijdegen_check, number_of, raw_check};
 use crate::common::forge::{one_record, Page, EMPTY};
+use crate::common::heads::{head_of, UNTRUE, ZEROS};
 use crate::common::sets::{
     published_trees, rows_of_few_layers, set, set_of_layers, sets_to, Kind, COUNTS, HIGH, KINDS,
 };
@@ -12,8 +13,8 @@ use std::ptr::{self, NonNull};
 
 #[test]
 fn registers_of_the_scope() {
-    assert_eq!(check(&EMPTY), Ok(0));
-    assert_eq!(check(&one_record()), Ok(1));
+    assert_eq!(count_of(&EMPTY), Ok(0));
+    assert_eq!(count_of(&one_record()), Ok(1));
     assert_eq!(one_record().len(), 64);
     // 2 registers.
     for register in [EMPTY.to_vec(), one_record()] {
@@ -28,7 +29,7 @@ fn all_kinds_and_counts() {
     let mut cases = 0;
     for (kind, set) in sets_to(4_096) {
         let register = table(&set);
-        assert_eq!(check(&register), Ok(set.len()), "{kind:?}");
+        assert_eq!(check(&register), Ok(head_of(&set)), "{kind:?}");
         assert_eq!(number_of(&register), 0, "{kind:?}");
         // Another writer of the same pages.
         assert!(Page::of_set(&set).table() == register, "{kind:?}");
@@ -76,7 +77,9 @@ fn roots_of_published_trees() {
         let pages = pages(&set);
         let found = digest(&pages[0]).expect("a page is short");
         assert_eq!(hexadecimal(&found), root);
-        assert_eq!(check(&pages.concat()), Ok(set.len()));
+        let head = check(&pages.concat()).expect("an accepted register");
+        assert_eq!(hexadecimal(&head.digest), root);
+        assert_eq!(head.count as usize, set.len());
     }
 }
 
@@ -110,7 +113,7 @@ fn random_sets() {
             }
         }
         let register = table(&set);
-        assert_eq!(check(&register), Ok(set.len()));
+        assert_eq!(check(&register), Ok(head_of(&set)));
         assert_eq!(number_of(&register), 0);
         cases += 1;
     }
@@ -128,7 +131,7 @@ fn each_length_of_keys() {
         assert_eq!(number_of(&table(&set)), 0, "length {length}");
         all.insert(key, [length as u8; 32]);
     }
-    assert_eq!(check(&table(&all)), Ok(254));
+    assert_eq!(count_of(&table(&all)), Ok(254));
     assert_eq!(number_of(&table(&all)), 0);
 }
 
@@ -141,7 +144,7 @@ fn each_count_of_entries() {
         let set: Set = all[..count].iter().cloned().collect();
         let register = table(&set);
         assert_eq!(pages(&set).len(), 1);
-        assert_eq!(check(&register), Ok(count));
+        assert_eq!(check(&register), Ok(head_of(&set)));
         cases += 1;
     }
     assert_eq!(cases, 301);
@@ -164,7 +167,8 @@ fn every_value_is_taken() {
 /// The register may lie at any address, and other bytes may stand around it.
 #[test]
 fn any_address() {
-    let register = table(&set(Kind::Ordinary, 10));
+    let set = set(Kind::Ordinary, 10);
+    let register = table(&set);
     let mut cases = 0;
     for offset in 0..16 {
         // 3 bytes that stand around it; the last could be the start of a page.
@@ -173,8 +177,8 @@ fn any_address() {
             buffer.extend(&register);
             buffer.extend([around; 16]);
             let lent = &mut buffer[offset..offset + register.len()];
-            assert_eq!(check(lent), Ok(10), "offset {offset}");
-            assert_eq!(raw_check(lent), 256 * 10, "offset {offset}");
+            assert_eq!(check(lent), Ok(head_of(&set)), "offset {offset}");
+            assert_eq!(raw_check(lent), (0, head_of(&set)), "offset {offset}");
             cases += 1;
         }
     }
@@ -209,9 +213,11 @@ fn a_length_over_32_bits_is_refused() {
 fn raw_call_does_not_read_an_empty_register() {
     // 2 pointers that cannot be read.
     for register in [ptr::null(), NonNull::<u8>::dangling().as_ptr().cast_const()] {
+        let mut head = UNTRUE;
         // SAFETY: At length 0 the register is not read.
-        let answer = unsafe { mijdegen_check(register, 0) };
+        let answer = unsafe { mijdegen_check(register, 0, &mut head) };
         assert_eq!(answer, 2);
+        assert_eq!(head, ZEROS);
     }
 }
 

@@ -1,6 +1,7 @@
 //! `difference` against the independent crate, against the sets and the pages' bytes themselves,
 //! and together with `merge`.
 
+use crate::common::calls::count_of;
 use crate::common::forge::EMPTY;
 use crate::common::lists::Source;
 use crate::common::sets::{
@@ -160,7 +161,7 @@ fn few_pages_are_opened() {
             let mut changed = set.clone();
             *changed.values_mut().nth(n).expect("a record") = [0xff; 32];
             let (found, opened) = expect_difference(&set, &changed);
-            assert_eq!(mijdegen::check(&found), Ok(1));
+            assert_eq!(count_of(&found), Ok(1));
             let key = changed.keys().nth(n).expect("a record");
             assert_eq!(opened, 1 + usize::from(highest - layer(key)), "{kind:?}");
             cases += 1;
@@ -208,7 +209,7 @@ fn other_values() {
             compare(&second, &first);
             let (found, _) = expect_difference(&first, &second);
             let apart = first.len().div_ceil(step);
-            assert_eq!(mijdegen::check(&found), Ok(apart), "{kind:?}");
+            assert_eq!(count_of(&found), Ok(apart), "{kind:?}");
             cases += 3;
         }
     }
@@ -226,7 +227,7 @@ fn values_one_bit_apart() {
             let kept = changed.values_mut().nth(n).expect("3 records");
             kept[bit / 8] ^= 1 << (bit % 8);
             let (found, _) = expect_difference(&set, &changed);
-            assert_eq!(mijdegen::check(&found), Ok(1));
+            assert_eq!(count_of(&found), Ok(1));
             cases += 1;
         }
     }
@@ -373,7 +374,7 @@ fn many_pages_without_entries() {
     let mut high = low.clone();
     high.insert(HIGH[0].as_bytes().to_vec(), [0x77; 32]);
     let (found, opened) = expect_difference(&low, &high);
-    assert_eq!(mijdegen::check(&found), Ok(1));
+    assert_eq!(count_of(&found), Ok(1));
     // Two chains of 16 pages below the root, of which no page is the one page.
     assert_eq!(opened, 1 + 2 * 16);
     let (found, opened) = expect_difference(&high, &low);
@@ -397,7 +398,7 @@ fn ten_thousand_pages() {
         let mut changed = set.clone();
         *changed.values_mut().nth(n).expect("a record") = [0xff; 32];
         let (found, opened) = expect_difference(&set, &changed);
-        assert_eq!((mijdegen::check(&found), opened), (Ok(1), expected));
+        assert_eq!((count_of(&found), opened), (Ok(1), expected));
         cases += 1;
     }
     assert_eq!(cases, 3);

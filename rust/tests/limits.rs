@@ -1,6 +1,6 @@
 //! The writing calls around 4,096 records, and the longest tables.
 
-use crate::common::calls::number_of;
+use crate::common::calls::{count_of, number_of};
 use crate::common::forge::{Entry, Page};
 use crate::common::paths::expect_path;
 use crate::common::sets::{
@@ -239,7 +239,7 @@ fn the_longest_tables() {
     let all = long_table(4_096);
     let whole = table(&all);
     assert!(whole.len() > 1_500_000, "{}", whole.len());
-    assert_eq!(mijdegen::check(&whole), Ok(4_096));
+    assert_eq!(count_of(&whole), Ok(4_096));
 
     let mut cases = 0;
     // The new record is of layer 3, then of layer 0.

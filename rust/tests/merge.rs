@@ -1,6 +1,8 @@
 //! `merge` against the independent crate, against the sets themselves, and its three laws.
 
+use crate::common::calls::count_of;
 use crate::common::forge::{one_record, EMPTY};
+use crate::common::heads::head_of;
 use crate::common::lists::Source;
 use crate::common::sets::{
     part, parts, rows_of_few_layers, set, set_of_layers, sets_to, value, KINDS,
@@ -31,9 +33,11 @@ fn with_the_empty_register_and_itself() {
             cases += 1;
         }
         // The very same bytes are lent twice.
-        let mut out = vec![0xaa; register.len()];
-        assert_eq!(merge(&register, &register, &mut out), Ok(register.len()));
+        let (mut head, mut out) = (head_of(&set), vec![0xaa; register.len()]);
+        let length = merge(&register, &mut head, &register, &mut out);
+        assert_eq!(length, Ok(register.len()));
         assert!(out == register, "{kind:?}");
+        assert_eq!(head, head_of(&set), "{kind:?}");
         cases += 1;
     }
     assert_eq!(cases, KINDS.len() * 6 * 4);
@@ -182,10 +186,7 @@ fn laws() {
             );
             assert!(merged(&a, &a) == a, "{kind:?}: idempotent");
             // Nothing of the three is lost, and merging a part once more changes nothing.
-            assert_eq!(
-                mijdegen::check(&one_way),
-                Ok(set_of(&one_way).unwrap().len())
-            );
+            assert_eq!(count_of(&one_way), Ok(set_of(&one_way).unwrap().len()));
             for one in [&a, &b, &c] {
                 assert!(merged(&one_way, one) == one_way, "{kind:?}");
             }
@@ -223,7 +224,7 @@ fn laws_on_large_registers() {
             merged(&one_way, &one_way) == one_way,
             "{kind:?}: idempotent"
         );
-        assert_eq!(mijdegen::check(&one_way), Ok(4_000));
+        assert_eq!(count_of(&one_way), Ok(4_000));
         cases += 1;
     }
     assert_eq!(cases, KINDS.len());
@@ -237,10 +238,14 @@ fn one_register_may_lie_in_the_other() {
     value[..7].copy_from_slice(&EMPTY);
     let set = Set::from([(b"a/b1".to_vec(), value)]);
     let register = table(&set);
-    let mut out = [0xaa; 64];
-    assert_eq!(merge(&register[29..36], &register, &mut out), Ok(64));
+    let (mut head, mut out) = (head_of(&Set::new()), [0xaa; 64]);
+    let length = merge(&register[29..36], &mut head, &register, &mut out);
+    assert_eq!(length, Ok(64));
     assert_eq!(out[..], register);
-    assert_eq!(merge(&register, &register[29..36], &mut out), Ok(64));
+    assert_eq!(head, head_of(&set));
+    let length = merge(&register, &mut head, &register[29..36], &mut out);
+    assert_eq!(length, Ok(64));
     assert_eq!(out[..], register);
+    assert_eq!(head, head_of(&set));
     assert_eq!(register.len(), one_record().len());
 }

@@ -1,11 +1,15 @@
 //! The order in which the numbers are judged: with several faults at once the first one is
-//! answered.
+//! answered. A head that is lent stays as it is then.
 
 use crate::common::forge::{faulty_registers, one_record, EMPTY};
+use crate::common::heads::{head_for, three_untrue, Heads, ZEROS};
 use crate::common::neighbours::{expect_neighbour, Neighbour, NEIGHBOURS};
 use crate::common::sets::{set, Kind};
-use crate::common::writes::{expect_refusal, expect_table_and, Call};
+use crate::common::writes::{
+    expect_refusal, expect_refusal_with, expect_table_and, expect_table_with, Call,
+};
 use independent::{table, Set};
+use mijdegen::Head;
 
 const VALUE: [u8; 32] = [0x11; 32];
 
@@ -40,6 +44,37 @@ fn expect_first_and(
             0
         }
     }
+}
+
+/// Expects the first number that is due, or the table and its head where there is none, of a call
+/// that is lent this head. Gives the number, or 0.
+fn expect_first_with(
+    register: &[u8],
+    lent: Head,
+    call: &Call,
+    out_length: usize,
+    due: &[Option<u8>],
+    table: &[u8],
+) -> u8 {
+    match due.iter().flatten().next() {
+        Some(number) => {
+            expect_refusal_with(register, lent, call, out_length, *number);
+            *number
+        }
+        None => {
+            let after = head_for(table);
+            expect_table_with(register, &Heads { lent, after }, call, out_length, table);
+            0
+        }
+    }
+}
+
+/// Gives the register's head and four that are untrue of it, that of zeros among them, each with
+/// the number that is due. A register that is refused has no head, and its own number comes first.
+fn heads(register: &[u8]) -> [(Head, Option<u8>); 5] {
+    let head = head_for(register);
+    let [count, layer, digest] = three_untrue(&head).map(|head| (head, Some(17)));
+    [(head, None), count, layer, digest, (ZEROS, Some(17))]
 }
 
 /// Gives the scope's example of each number and registers that are accepted, each with the number
@@ -149,40 +184,48 @@ fn run() {
     assert_eq!((counts[0], counts[13]), (2 * 4, 2 * 4 * 2));
 }
 
-/// Register, key, value, count, output: all combinations of faults.
+/// Register, head, key, value, count, output: all combinations of faults.
 #[test]
 fn put_and_join() {
     let full = table(&full());
-    let mut cases = 0;
+    let (mut cases, mut counts) = (0, [0; 18]);
     for (register, number) in registers(&[EMPTY.to_vec(), full.clone()]) {
         // A new key is one too many where there are 4,096 records.
         let count = (register == full).then_some(5);
-        for (key, unlawful) in [
-            (&b"a/b1"[..], None),
-            (b"ab", Some(7)),
-            (b"a/.", Some(7)),
-            (b"", Some(7)),
-        ] {
-            for (value, other_length) in [
-                (&VALUE[..], None),
-                (&VALUE[..31], Some(11)),
-                (b"", Some(11)),
+        for (head, untrue) in heads(&register) {
+            for (key, unlawful) in [
+                (&b"a/b1"[..], None),
+                (b"ab", Some(7)),
+                (b"a/.", Some(7)),
+                (b"", Some(7)),
             ] {
-                for (out_length, no_room) in [(64, None), (63, Some(13)), (0, Some(13))] {
-                    let due = [number, unlawful, other_length, count, no_room];
-                    for call in [Call::put(key, value), Call::join(key, value)] {
-                        expect_first(&register, &call, out_length, &due, &one_record());
-                        cases += 1;
+                for (value, other_length) in [
+                    (&VALUE[..], None),
+                    (&VALUE[..31], Some(11)),
+                    (b"", Some(11)),
+                ] {
+                    for (length, no_room) in [(64, None), (63, Some(13)), (0, Some(13))] {
+                        let due = [number, untrue, unlawful, other_length, count, no_room];
+                        for call in [Call::put(key, value), Call::join(key, value)] {
+                            let one = one_record();
+                            let found =
+                                expect_first_with(&register, head, &call, length, &due, &one);
+                            counts[usize::from(found)] += 1;
+                            cases += 1;
+                        }
                     }
                 }
             }
         }
     }
-    assert_eq!(cases, (10 + 2) * 4 * 3 * 3 * 2);
+    assert_eq!(cases, (10 + 2) * 5 * 4 * 3 * 3 * 2);
+    // Four heads of the two accepted registers are untrue, whatever else is handed over.
+    assert_eq!(counts[17], 2 * 4 * 4 * 3 * 3 * 2);
+    assert_eq!((counts[0], counts[13]), (2, 2 * 2));
 }
 
-/// Register, key, absence, output: all combinations of faults. A register of 4,096 records has
-/// no number 5, whether the key is there or not.
+/// Register, head, key, absence, output: all combinations of faults. A register of 4,096 records
+/// has no number 5, whether the key is there or not.
 #[test]
 fn remove() {
     let mut full = full_with_a_first();
@@ -190,47 +233,60 @@ fn remove() {
     full.remove(&b"a/b1"[..]);
     let without = table(&full);
 
-    let mut cases = 0;
+    let (mut cases, mut counts) = (0, [0; 18]);
     for (register, number) in registers(&[one_record(), full_table.clone()]) {
         let expected = match register == full_table {
             true => &without[..],
             false => &EMPTY,
         };
-        let length = expected.len();
-        for (key, due_on_key) in [
-            (&b"a/b1"[..], None),
-            (b"a/b3", Some(12)),
-            (b"ab", Some(7)),
-            (b"a/..", Some(7)),
-            (b"", Some(7)),
-        ] {
-            for (out_length, no_room) in [(length, None), (length - 1, Some(13)), (0, Some(13))] {
-                let due = [number, due_on_key, no_room];
-                expect_first(&register, &Call::remove(key), out_length, &due, expected);
-                cases += 1;
+        let whole = expected.len();
+        for (head, untrue) in heads(&register) {
+            for (key, due_on_key) in [
+                (&b"a/b1"[..], None),
+                (b"a/b3", Some(12)),
+                (b"ab", Some(7)),
+                (b"a/..", Some(7)),
+                (b"", Some(7)),
+            ] {
+                for (length, no_room) in [(whole, None), (whole - 1, Some(13)), (0, Some(13))] {
+                    let due = [number, untrue, due_on_key, no_room];
+                    let call = Call::remove(key);
+                    let found = expect_first_with(&register, head, &call, length, &due, expected);
+                    counts[usize::from(found)] += 1;
+                    cases += 1;
+                }
             }
         }
     }
-    assert_eq!(cases, (10 + 2) * 5 * 3);
+    assert_eq!(cases, (10 + 2) * 5 * 5 * 3);
+    assert_eq!(counts[17], 2 * 4 * 5 * 3);
+    assert_eq!((counts[0], counts[13]), (2, 2 * 2));
 }
 
-/// First register, second register, count, output: all combinations of faults.
+/// First register, its head, second register, count, output: all combinations of faults. The head
+/// of the second register is one more that is untrue of the first.
 #[test]
 fn merge() {
     let full = table(&full());
-    let mut cases = 0;
+    let (mut cases, mut counts) = (0, [0; 18]);
     for (first, first_number) in registers(&[EMPTY.to_vec(), full.clone()]) {
+        let heads = heads(&first);
         for (second, second_number) in registers(&[one_record()]) {
             let count = (first == full).then_some(5);
-            for (out_length, no_room) in [(64, None), (63, Some(13)), (0, Some(13))] {
-                let due = [first_number, second_number, count, no_room];
-                let call = Call::merge(&second);
-                expect_first(&first, &call, out_length, &due, &one_record());
-                cases += 1;
+            for (head, untrue) in heads.into_iter().chain([(head_for(&second), Some(17))]) {
+                for (length, no_room) in [(64, None), (63, Some(13)), (0, Some(13))] {
+                    let due = [first_number, untrue, second_number, count, no_room];
+                    let (call, one) = (Call::merge(&second), one_record());
+                    let found = expect_first_with(&first, head, &call, length, &due, &one);
+                    counts[usize::from(found)] += 1;
+                    cases += 1;
+                }
             }
         }
     }
-    assert_eq!(cases, (10 + 2) * (10 + 1) * 3);
+    assert_eq!(cases, (10 + 2) * (10 + 1) * 6 * 3);
+    assert_eq!(counts[17], 2 * (10 + 1) * 5 * 3);
+    assert_eq!((counts[0], counts[13]), (1, 2));
 
     // The second register is the full one.
     let mut cases = 0;

@@ -5,6 +5,7 @@ use crate::common::calls::{
     mijdegen_remove, mijdegen_screen,
 };
 use crate::common::forge::{one_record, EMPTY};
+use crate::common::heads::{head_for, head_of, SurroundedHead, UNTRUE};
 use crate::common::neighbours::NEIGHBOURS;
 use crate::common::sets::{collection_of, part, screens_of, set, set_of_layers, Kind};
 use crate::common::writes::{expect_refusal, expect_table_and, Call};
@@ -103,6 +104,7 @@ fn any_address() {
     let collection = collection_of(key);
     let shown = table(&screens_of(&set, collection)[0]);
     let opened = Call::path(key).result(set.clone()).expect("a lawful key");
+    let (head_of_others, head_of_whole) = (head_for(&others), head_of(&set));
     let mut cases = 0;
     for offset in 0..16 {
         // 3 bytes that stand around them; the last could be the start of a page.
@@ -114,15 +116,21 @@ fn any_address() {
                 [&register, &key, &value, &second, &collection]
                     .map(|buffer| &buffer[offset..buffer.len() - 16]);
 
-            let mut out = vec![0xaa; whole.len()];
-            assert_eq!(put(register, key, value, &mut out), Ok(whole.len()));
+            let (mut head, mut out) = (head_of_others, vec![0xaa; whole.len()]);
+            let length = put(register, &mut head, key, value, &mut out);
+            assert_eq!((length, head), (Ok(whole.len()), head_of_whole));
             assert!(out == whole, "put at {offset}");
-            assert_eq!(join(register, key, value, &mut out), Ok(whole.len()));
+            head = head_of_others;
+            let length = join(register, &mut head, key, value, &mut out);
+            assert_eq!((length, head), (Ok(whole.len()), head_of_whole));
             assert!(out == whole, "join at {offset}");
-            assert_eq!(merge(register, second, &mut out), Ok(whole.len()));
+            head = head_of_others;
+            let length = merge(register, &mut head, second, &mut out);
+            assert_eq!((length, head), (Ok(whole.len()), head_of_whole));
             assert!(out == whole, "merge at {offset}");
             out.truncate(others.len());
-            assert_eq!(remove(second, key, &mut out), Ok(others.len()));
+            let length = remove(second, &mut head, key, &mut out);
+            assert_eq!((length, head), (Ok(others.len()), head_of_others));
             assert!(out == others, "remove at {offset}");
             out.truncate(alone.len());
             assert_eq!(run(second, key..=key, &mut out), Ok(alone.len()));
@@ -168,6 +176,10 @@ fn lengths_over_32_bits() {
         out.fill(0xaa);
     };
 
+    // The heads are true where there is an accepted register, and stay as they are.
+    let heads = [UNTRUE, head_for(&EMPTY), head_for(&one_record())];
+    let [mut of_none, mut of_empty, mut of_one] = heads;
+
     long[..7].copy_from_slice(&EMPTY);
     let register = &long[..(1 << 32) + 7];
     let too_long = Refusal::TooLong;
@@ -180,15 +192,16 @@ fn lengths_over_32_bits() {
         too_long,
         &mut out,
     );
-    refused(put(register, b"a/b1", &VALUE, &mut out), too_long, &mut out);
-    refused(
-        join(register, b"a/b1", &VALUE, &mut out),
-        too_long,
-        &mut out,
-    );
-    refused(remove(register, b"a/b1", &mut out), too_long, &mut out);
-    refused(merge(register, &EMPTY, &mut out), too_long, &mut out);
-    refused(merge(&EMPTY, register, &mut out), too_long, &mut out);
+    for call in [put, join] {
+        let found = call(register, &mut of_none, b"a/b1", &VALUE, &mut out);
+        refused(found, too_long, &mut out);
+    }
+    let found = remove(register, &mut of_none, b"a/b1", &mut out);
+    refused(found, too_long, &mut out);
+    let found = merge(register, &mut of_none, &EMPTY, &mut out);
+    refused(found, too_long, &mut out);
+    let found = merge(&EMPTY, &mut of_empty, register, &mut out);
+    refused(found, too_long, &mut out);
     for (first, second) in [(register, &EMPTY[..]), (&EMPTY, register)] {
         let found = difference(first, second, &mut out).map(|found| found.length);
         refused(found, too_long, &mut out);
@@ -211,9 +224,12 @@ fn lengths_over_32_bits() {
             &mut out,
         );
     }
-    refused(put(&EMPTY, key, &VALUE, &mut out), unlawful, &mut out);
-    refused(join(&EMPTY, key, &VALUE, &mut out), unlawful, &mut out);
-    refused(remove(&one_record(), key, &mut out), unlawful, &mut out);
+    for call in [put, join] {
+        let found = call(&EMPTY, &mut of_empty, key, &VALUE, &mut out);
+        refused(found, unlawful, &mut out);
+    }
+    let found = remove(&one_record(), &mut of_one, key, &mut out);
+    refused(found, unlawful, &mut out);
     refused(path(&one_record(), key, &mut out), unlawful, &mut out);
     let collection = &long[..(1 << 32) + 1];
     let found = screen(&one_record(), collection, 0, &mut out).map(|found| found.length);
@@ -221,16 +237,11 @@ fn lengths_over_32_bits() {
 
     let value = &long[..(1 << 32) + 32];
     let other_length = Refusal::ValueLength;
-    refused(
-        put(&EMPTY, b"a/b1", value, &mut out),
-        other_length,
-        &mut out,
-    );
-    refused(
-        join(&EMPTY, b"a/b1", value, &mut out),
-        other_length,
-        &mut out,
-    );
+    for call in [put, join] {
+        let found = call(&EMPTY, &mut of_empty, b"a/b1", value, &mut out);
+        refused(found, other_length, &mut out);
+    }
+    assert_eq!([of_none, of_empty, of_one], heads);
 }
 
 #[test]
@@ -240,32 +251,44 @@ fn raw_calls_do_not_touch_empty_buffers() {
     let (key, value) = (b"a/b1".as_ptr(), VALUE.as_ptr());
     let (none, no_out) = (ptr::null(), ptr::null_mut());
     let mut out = [0xaa; 64];
+    let lent = head_for(&register);
+    let mut surrounded = SurroundedHead::new(&lent, 0);
+    let head = surrounded.start();
     // SAFETY: A buffer of length 0 is neither read nor written, and the others are whole.
     unsafe {
         for call in [mijdegen_put, mijdegen_join] {
-            assert_eq!(call(none, 0, none, 0, none, 0, no_out, 0), 2);
-            assert_eq!(call(reg, reg_len, none, 0, none, 0, no_out, 0), 7);
-            assert_eq!(call(reg, reg_len, key, 4, none, 0, no_out, 0), 11);
-            assert_eq!(call(reg, reg_len, key, 4, value, 32, no_out, 0), 13);
-            assert_eq!(call(none, 0, key, 4, value, 32, out.as_mut_ptr(), 64), 2);
+            assert_eq!(call(none, 0, head, none, 0, none, 0, no_out, 0), 2);
+            assert_eq!(call(reg, reg_len, head, none, 0, none, 0, no_out, 0), 7);
+            assert_eq!(call(reg, reg_len, head, key, 4, none, 0, no_out, 0), 11);
+            assert_eq!(call(reg, reg_len, head, key, 4, value, 32, no_out, 0), 13);
+            let (start, length) = (out.as_mut_ptr(), out.len());
+            assert_eq!(call(none, 0, head, key, 4, value, 32, start, length), 2);
             assert_eq!(out, [0; 64]);
             out.fill(0xaa);
         }
-        for call in [mijdegen_remove, mijdegen_path] {
-            assert_eq!(call(none, 0, none, 0, no_out, 0), 2);
-            assert_eq!(call(reg, reg_len, none, 0, no_out, 0), 7);
-            assert_eq!(call(reg, reg_len, key, 4, no_out, 0), 13);
-        }
-        for call in [mijdegen_merge, mijdegen_difference] {
-            assert_eq!(call(none, 0, none, 0, no_out, 0), 2);
-            assert_eq!(call(reg, reg_len, none, 0, no_out, 0), 2);
-            assert_eq!(call(none, 0, reg, reg_len, no_out, 0), 2);
-            assert_eq!(call(reg, reg_len, reg, reg_len, no_out, 0), 13);
-        }
+        let call = mijdegen_remove;
+        assert_eq!(call(none, 0, head, none, 0, no_out, 0), 2);
+        assert_eq!(call(reg, reg_len, head, none, 0, no_out, 0), 7);
+        assert_eq!(call(reg, reg_len, head, key, 4, no_out, 0), 13);
+        let call = mijdegen_path;
+        assert_eq!(call(none, 0, none, 0, no_out, 0), 2);
+        assert_eq!(call(reg, reg_len, none, 0, no_out, 0), 7);
+        assert_eq!(call(reg, reg_len, key, 4, no_out, 0), 13);
+        let call = mijdegen_merge;
+        assert_eq!(call(none, 0, head, none, 0, no_out, 0), 2);
+        assert_eq!(call(reg, reg_len, head, none, 0, no_out, 0), 2);
+        assert_eq!(call(none, 0, head, reg, reg_len, no_out, 0), 2);
+        assert_eq!(call(reg, reg_len, head, reg, reg_len, no_out, 0), 13);
+        let call = mijdegen_difference;
+        assert_eq!(call(none, 0, none, 0, no_out, 0), 2);
+        assert_eq!(call(reg, reg_len, none, 0, no_out, 0), 2);
+        assert_eq!(call(none, 0, reg, reg_len, no_out, 0), 2);
+        assert_eq!(call(reg, reg_len, reg, reg_len, no_out, 0), 13);
         assert_eq!(mijdegen_screen(none, 0, none, 0, 0, no_out, 0), 2);
         assert_eq!(mijdegen_screen(none, 0, key, 1, 0, no_out, 0), 2);
         assert_eq!(mijdegen_screen(reg, reg_len, none, 0, 0, no_out, 0), 7);
         assert_eq!(mijdegen_screen(reg, reg_len, key, 1, 1, no_out, 0), 15);
         assert_eq!(mijdegen_screen(reg, reg_len, key, 1, 0, no_out, 0), 13);
     }
+    assert_eq!(surrounded.contents(), lent);
 }

@@ -1,6 +1,7 @@
 //! `put` and `join` against the independent crate and against the sets themselves.
 
 use crate::common::forge::{one_record, EMPTY};
+use crate::common::heads::head_for;
 use crate::common::sets::{
     keys_near, keys_with, part, set, set_of_layers, sets_to, unlawful_keys, Kind, KINDS,
 };
@@ -296,14 +297,18 @@ fn every_value_is_taken() {
 fn the_key_and_the_value_may_lie_in_the_register() {
     let register = one_record();
     let (key, value) = (&register[8..12], &register[29..61]);
-    let mut out = [0xaa; 64];
-    assert_eq!(mijdegen::put(&register, key, value, &mut out), Ok(64));
+    let (mut head, mut out) = (head_for(&register), [0xaa; 64]);
+    let length = mijdegen::put(&register, &mut head, key, value, &mut out);
+    assert_eq!(length, Ok(64));
     assert_eq!(out[..], register);
-    // The value is the last bytes of the link and the next ones.
+    // The value is the last bytes of the link and the next ones. It is less than the one that is
+    // there, since it begins with 00.
     let value = &register[24..56];
-    assert_eq!(mijdegen::put(&register, key, value, &mut out), Ok(64));
-    assert_eq!(out[29..61], *value);
-    // It is less than the one that is there, since it begins with 00.
-    assert_eq!(mijdegen::join(&register, key, value, &mut out), Ok(64));
+    let length = mijdegen::join(&register, &mut head, key, value, &mut out);
+    assert_eq!(length, Ok(64));
     assert_eq!(out[..], register);
+    let length = mijdegen::put(&register, &mut head, key, value, &mut out);
+    assert_eq!(length, Ok(64));
+    assert_eq!(out[29..61], *value);
+    assert_eq!(head, head_for(&out));
 }

@@ -1,7 +1,7 @@
 //! `at_or_after`, `before` and `run` against the independent crate and against the sets
 //! themselves.
 
-use crate::common::calls::{mijdegen_at_or_after, mijdegen_before, mijdegen_run};
+use crate::common::calls::{count_of, mijdegen_at_or_after, mijdegen_before, mijdegen_run};
 use crate::common::forge::{faulty_registers, one_record, EMPTY};
 use crate::common::neighbours::{compare_neighbour, expect_record, Neighbour, NEIGHBOURS};
 use crate::common::sets::{
@@ -14,9 +14,7 @@ use crate::common::writes::{
 };
 use crate::common::Random;
 use independent::{lawful, pages, table, Set};
-use mijdegen::{
-    at_or_after, before, check, list, lookup, run, Listed, Refusal, LONGEST, LONGEST_KEY,
-};
+use mijdegen::{at_or_after, before, list, lookup, run, Listed, Refusal, LONGEST, LONGEST_KEY};
 use std::ops::Bound::Included;
 use std::ptr;
 
@@ -411,7 +409,7 @@ fn the_calls_agree() {
             if present.is_ok() {
                 to_here = written(&to_here, &Call::remove(&key));
             }
-            let count = check(&to_here).expect("accepted");
+            let count = count_of(&to_here).expect("accepted");
             let listed = list(&to_here, count.wrapping_sub(1), &mut first);
             let last = before(&register, &key, &mut out).ok();
             assert_eq!(listed.expect("accepted"), last, "{kind:?}");
@@ -632,7 +630,7 @@ fn what_is_written_is_read_back() {
             let length = run(&register, ends[0]..=ends[1], &mut out).expect("there is room");
             assert!(out[length..].iter().all(|byte| *byte == 0), "{kind:?}");
             out.truncate(length);
-            assert_eq!(check(&out), Ok(expected.len()), "{kind:?}");
+            assert_eq!(count_of(&out), Ok(expected.len()), "{kind:?}");
             let mut key_out = [0; LONGEST_KEY];
             for (n, (key, value)) in expected.iter().enumerate() {
                 let listed = list(&out, n, &mut key_out)
@@ -698,8 +696,8 @@ fn runs_that_follow_one_another() {
             let one = written(&register, &Call::run(&least_key(), keys[cut - 1]));
             let other = written(&register, &Call::run(keys[cut], &greatest_key()));
             assert!(written(&one, &Call::merge(&other)) == register, "{kind:?}");
-            assert_eq!(check(&one), Ok(cut));
-            assert_eq!(check(&other), Ok(keys.len() - cut));
+            assert_eq!(count_of(&one), Ok(cut));
+            assert_eq!(count_of(&other), Ok(keys.len() - cut));
             cases += 1;
         }
     }

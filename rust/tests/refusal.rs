@@ -4,8 +4,8 @@ use mijdegen::{Refusal, LONGEST, LONGEST_KEY, LONGEST_SCREEN, PER_SCREEN};
 use std::collections::HashSet;
 use std::error::Error;
 
-/// The 16 refusals with their numbers and their names in C.
-const REFUSALS: [(Refusal, u8, &str); 16] = [
+/// The 17 refusals with their numbers and their names in C.
+const REFUSALS: [(Refusal, u8, &str); 17] = [
     (Refusal::TooLong, 1, "MIJDEGEN_TOO_LONG"),
     (Refusal::EndsEarly, 2, "MIJDEGEN_ENDS_EARLY"),
     (Refusal::Departs, 3, "MIJDEGEN_DEPARTS"),
@@ -22,6 +22,7 @@ const REFUSALS: [(Refusal, u8, &str); 16] = [
     (Refusal::FirstAfterLast, 14, "MIJDEGEN_FIRST_AFTER_LAST"),
     (Refusal::NoSuchScreen, 15, "MIJDEGEN_NO_SUCH_SCREEN"),
     (Refusal::PageNotDue, 16, "MIJDEGEN_PAGE_NOT_DUE"),
+    (Refusal::UntrueHead, 17, "MIJDEGEN_UNTRUE_HEAD"),
 ];
 
 #[test]
@@ -35,8 +36,8 @@ fn numbers_lead_to_refusals_and_back() {
 #[test]
 fn other_numbers_are_no_refusal() {
     assert_eq!(Refusal::from_number(0), None);
-    // 239 numbers.
-    for number in 17..=255 {
+    // 238 numbers.
+    for number in 18..=255 {
         assert_eq!(Refusal::from_number(number), None);
     }
 }
@@ -50,7 +51,7 @@ fn each_refusal_has_its_own_message() {
             error.to_string()
         })
         .collect();
-    assert_eq!(messages.len(), 16);
+    assert_eq!(messages.len(), 17);
     assert!(!messages.contains(""));
 }
 

@@ -1,6 +1,7 @@
 //! `remove` against the independent crate and against the sets themselves.
 
 use crate::common::forge::{one_record, EMPTY};
+use crate::common::heads::head_for;
 use crate::common::sets::{keys_near, part, set, sets_to, unlawful_keys, Kind, HIGH, KINDS};
 use crate::common::writes::{compare_lengths, expect_refusal, expect_table, written, Call};
 use crate::common::Random;
@@ -178,9 +179,10 @@ fn put_and_removed_again() {
 #[test]
 fn the_key_may_lie_in_the_register() {
     let register = one_record();
-    let mut out = [0xaa; 8];
-    let removed = mijdegen::remove(&register, &register[8..12], &mut out);
+    let (mut head, mut out) = (head_for(&register), [0xaa; 8]);
+    let removed = mijdegen::remove(&register, &mut head, &register[8..12], &mut out);
     assert_eq!(removed, Ok(7));
+    assert_eq!(head, head_for(&EMPTY));
     assert_eq!(out[..7], EMPTY);
     assert_eq!(out[7], 0);
 }

@@ -1,6 +1,6 @@
 //! `screen` against the independent crate and against the sets themselves.
 
-use crate::common::calls::compare_slash;
+use crate::common::calls::{compare_slash, count_of};
 use crate::common::forge::{one_record, EMPTY};
 use crate::common::sets::{
     collection_of, collections, dotted_keys, long_keys_in_turn, published_trees, records_of,
@@ -12,9 +12,7 @@ use crate::common::writes::{
 };
 use crate::common::Random;
 use independent::{layer, table, Set};
-use mijdegen::{
-    check, list, screen, Refusal, Screen, LONGEST, LONGEST_KEY, LONGEST_SCREEN, PER_SCREEN,
-};
+use mijdegen::{list, screen, Refusal, Screen, LONGEST, LONGEST_KEY, LONGEST_SCREEN, PER_SCREEN};
 
 /// Counts of records around the eights, each with the number of screens.
 const COUNTS: [(usize, usize); 7] = [(0, 1), (1, 1), (7, 1), (8, 1), (9, 2), (16, 2), (17, 3)];
@@ -264,7 +262,7 @@ fn all_screens_in_turn() {
 
 /// Adds the records of a register in key order. A screen has at most 8.
 fn add_records(register: &[u8], records: &mut Vec<(Vec<u8>, [u8; 32])>) {
-    let count = check(register).expect("accepted");
+    let count = count_of(register).expect("accepted");
     assert!(count <= PER_SCREEN);
     for n in 0..count {
         let mut key = [0; LONGEST_KEY];

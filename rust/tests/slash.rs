@@ -5,6 +5,7 @@ use crate::common::calls::{
     answer, compare_lookup, compare_slash, mijdegen_slash, number_of, raw_slash, shown,
 };
 use crate::common::forge::EMPTY;
+use crate::common::heads::head_for;
 use crate::common::lists::damaged;
 use crate::common::neighbours::NEIGHBOURS;
 use crate::common::sets::{
@@ -14,7 +15,7 @@ use crate::common::sets::{
 use crate::common::writes::Call;
 use crate::common::Random;
 use independent::{sha256, table, Set, LONGEST_KEY};
-use mijdegen::{slash, split, verify, Presence, Refusal, Split, LONGEST};
+use mijdegen::{screen, slash, split, verify, Presence, Refusal, Split, LONGEST};
 use std::ptr::{self, NonNull};
 use std::time::{Duration, Instant};
 
@@ -334,15 +335,15 @@ fn the_other_calls_agree() {
             (Call::remove(key), 12),
             (Call::path(key), 13),
         ] {
-            let found = call.safe(&EMPTY, &mut []);
+            let found = call.safe(&EMPTY, &mut head_for(&EMPTY), &mut []);
             assert_eq!(found.err(), due.or(Some(without_room)), "{key:?}");
         }
         // The part before the slash of a lawful key is a collection, and the key itself is not.
         if let Ok(parts) = split(key) {
-            let call = Call::screen(parts.collection, 0);
-            assert_eq!(call.safe(&EMPTY, &mut []), Err(13), "{key:?}");
-            let call = Call::screen(key, 0);
-            assert_eq!(call.safe(&EMPTY, &mut []), Err(7), "{key:?}");
+            for (collection, number) in [(parts.collection, 13), (key, 7)] {
+                let found = screen(&EMPTY, collection, 0, &mut []).map_err(Refusal::number);
+                assert_eq!(found, Err(number), "{key:?}");
+            }
         }
         let verdict = verify(&EMPTY, key, &sha256(&EMPTY)).map_err(Refusal::number);
         assert_eq!(verdict, due.map_or(Ok(Presence::Absent), Err), "{key:?}");

@@ -3,6 +3,7 @@
 use crate::common::forge::{
     left_chain, link_to, longest_page, right_chain, widest_page, Entry, Page, EMPTY,
 };
+use crate::common::heads::{in_library, Heads};
 use crate::common::lists::{full_set, List};
 use crate::common::neighbours::{expect_neighbour, Neighbour, NEIGHBOURS};
 use crate::common::paths::{expect_verdict, Verdict};
@@ -10,7 +11,7 @@ use crate::common::sets::{
     collection_of, greatest_key, just_after, just_before, least_key, long_keys_in_turn,
     one_page_below_high, part, screens_of, set, Kind, FULL_KINDS, HIGH, KINDS,
 };
-use crate::common::writes::{expect_outcome, expect_table, length_in, Call};
+use crate::common::writes::{expect_outcome, length_in, Call};
 use crate::common::Random;
 use independent::table;
 use mijdegen::{check, digest, layer, list, lookup, slash, Refusal, LONGEST, PER_SCREEN};
@@ -52,7 +53,7 @@ fn digest_and_layer() {
 fn call_with_small_stack(register: Vec<u8>, key: &[u8], n: usize) -> u8 {
     // The expected results are made outside the small stack.
     let before_slash = independent::slash(key);
-    let count = independent::check(&register);
+    let head = independent::check(&register).map(in_library);
     let place = independent::lookup(&register, key);
     let (mut key_out, mut value) = ([0; 256], [0; 32]);
     let length = independent::list(&register, n as u64, &mut key_out, &mut value);
@@ -77,33 +78,33 @@ fn call_with_small_stack(register: Vec<u8>, key: &[u8], n: usize) -> u8 {
     }
     let path = write_with_small_stack(&register, Call::path(key), room);
     // The path, where there is one, and the register's bytes in its place.
-    let root = match independent::set_of(&register) {
-        Ok(set) => Page::of_set(&set).written().digest,
+    let root = match head {
+        Ok(head) => head.digest,
         Err(_) => independent::sha256(&register),
     };
     let verdict = verify_with_small_stack(&path, key, &root);
-    assert_eq!(verdict.is_ok(), count.is_ok() && before_slash.is_ok());
+    assert_eq!(verdict.is_ok(), head.is_ok() && before_slash.is_ok());
     let _ = verify_with_small_stack(&register, key, &root);
 
     let key = key.to_vec();
     let found = with_small_stack(move || {
         let mut out = [0xaa; 256];
         let before_slash = slash(&key).map_err(Refusal::number);
-        let count = check(&register).map_err(Refusal::number);
+        let head = check(&register).map_err(Refusal::number);
         let found = lookup(&register, &key).map_err(Refusal::number).copied();
         let listed = list(&register, n, &mut out).map_err(Refusal::number);
         let listed = listed.map(|listed| listed.map(|listed| (listed.key_length, listed.value)));
-        (before_slash, count, found, listed, out, register)
+        (before_slash, head, found, listed, out, register)
     });
-    let (found_before_slash, found_count, found, listed, out, register) = found;
+    let (found_before_slash, found_head, found, listed, out, register) = found;
     assert_eq!(found_before_slash, before_slash);
-    assert_eq!(found_count, count);
+    assert_eq!(found_head, head);
     let expected = place.map(|place| register[place..place + 32].to_vec());
     assert_eq!(found.map(Vec::from), expected);
     let expected = length.map(|length| Some((length, value)).filter(|_| length > 0));
     assert_eq!(listed, expected);
     assert_eq!(out, key_out);
-    count.err().unwrap_or(0)
+    head.err().unwrap_or(0)
 }
 
 /// Gives the record beside the key on a small stack.
@@ -121,9 +122,11 @@ fn neighbour_with_small_stack(register: &[u8], call: Neighbour, key: &[u8]) {
 fn write_with_small_stack(register: &[u8], call: Call, out_length: usize) -> Vec<u8> {
     // The expected result is made outside the small stack.
     let mut output = vec![0; out_length];
-    let expected = call.independent(register, &mut output);
+    let mut heads = Heads::stay(call.head_for(register));
+    let expected = call.independent(register, &mut heads.after, &mut output);
     let register = register.to_vec();
-    let mut written = with_small_stack(move || expect_outcome(&register, &call, expected, &output));
+    let mut written =
+        with_small_stack(move || expect_outcome(&register, &heads, &call, expected, &output));
     written.truncate(expected.map_or(0, length_in));
     written
 }
@@ -265,12 +268,12 @@ fn the_largest_merges_and_differences() {
         ];
         let whole = table(&set);
         for (one, other) in &parts {
-            let (first, call) = (table(one), Call::merge(&table(other)));
-            for second in [&whole, &table(other)] {
+            let (first, second) = (table(one), table(other));
+            for second in [&whole, &second] {
                 write_with_small_stack(&first, Call::difference(second), whole.len());
             }
-            let whole = whole.clone();
-            with_small_stack(move || expect_table(&first, &call, whole.len(), &whole));
+            let merged = write_with_small_stack(&first, Call::merge(&second), whole.len());
+            assert!(merged == whole, "{kind:?}");
             cases += 3;
         }
     }
@@ -281,7 +284,7 @@ fn the_largest_merges_and_differences() {
     let whole = table(&set);
     let first = table(&part(&set, |n| n % 2 == 1));
     let call = Call::merge(&table(&part(&set, |n| n % 2 == 0)));
-    with_small_stack(move || expect_table(&first, &call, whole.len(), &whole));
+    assert!(write_with_small_stack(&first, call, whole.len()) == whole);
 }
 
 /// The highest key that is known comes into one page of 4,095 keys of layer 0: 16 pages follow one
@@ -327,11 +330,9 @@ fn the_deepest_results() {
     for n in [own - 1, own, own + 1] {
         write_with_small_stack(&parted, Call::screen(collection, n), parted.len());
     }
-    with_small_stack(move || {
-        let put = Call::put(key, &[0x77; 32]);
-        expect_table(&one_page, &put, parted.len(), &parted);
-        expect_table(&parted, &Call::remove(key), one_page.len(), &one_page);
-    });
+    let put = Call::put(key, &[0x77; 32]);
+    assert!(write_with_small_stack(&one_page, put, parted.len()) == parted);
+    assert!(write_with_small_stack(&parted, Call::remove(key), one_page.len()) == one_page);
 }
 
 /// Runs that begin or end inside one page of long keys: of layers 3 and 0 in turn, so that below

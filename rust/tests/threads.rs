@@ -1,6 +1,7 @@
 //! Calls at the same time from several threads. A safe function must allow them.
 
 use crate::common::forge::Page;
+use crate::common::heads::{head_of, Heads};
 use crate::common::lists::{damaged, List, Source};
 use crate::common::neighbours::NEIGHBOURS;
 use crate::common::paths::expect_verdict;
@@ -8,7 +9,7 @@ use crate::common::sets::{collections, greatest_key, least_key, screens_of, set,
 use crate::common::writes::{expect_outcome, Call};
 use crate::common::Random;
 use independent::{table, Set};
-use mijdegen::{check, digest, layer, list, lookup_place, slash, Listed, Refusal};
+use mijdegen::{check, digest, layer, list, lookup_place, slash, Head, Listed, Refusal};
 use std::thread;
 
 #[test]
@@ -98,15 +99,17 @@ fn differences_runs_screens_and_paths_at_the_same_time() {
                             _ => Call::path(&drawn_key(&mut random, &source)),
                         };
                         let first = table(&held);
+                        // These calls leave the head alone.
+                        let mut heads = Heads::stay(head_of(&held));
                         let mut output = vec![0; 40_000];
-                        let expected = call.independent(&first, &mut output);
-                        (first, call, expected, output)
+                        let expected = call.independent(&first, &mut heads.after, &mut output);
+                        (first, heads, call, expected, output)
                     })
                     .collect();
                 for _ in 0..20 {
-                    for (first, call, expected, output) in &cases {
+                    for (first, heads, call, expected, output) in &cases {
                         assert!(expected.is_ok());
-                        expect_outcome(first, call, *expected, output);
+                        expect_outcome(first, heads, call, *expected, output);
                     }
                 }
             });
@@ -176,7 +179,7 @@ type Given<T> = (Result<T, Refusal>, [u8; 40]);
 
 /// What check, lookup, list, at_or_after and before give.
 type Results = (
-    Result<usize, Refusal>,
+    Result<Head, Refusal>,
     Result<usize, Refusal>,
     Given<Option<Listed>>,
     [Given<Listed>; 2],
@@ -219,19 +222,20 @@ fn case(random: &mut Random, count: usize) -> (Vec<u8>, Vec<u8>, Results) {
         let (listed, out) = given(record);
         (listed.ok_or(Refusal::KeyAbsent), out)
     });
-    (register, key, (Ok(count), place, (Ok(listed), out), beside))
+    let results = (Ok(head_of(&set)), place, (Ok(listed), out), beside);
+    (register, key, results)
 }
 
 /// Checks the register, looks for the key, lists the record of the last number and gives those
 /// beside the key.
 fn results(register: &[u8], key: &[u8]) -> Results {
-    let count = check(register);
-    let n = count.unwrap_or(0).saturating_sub(1);
+    let head = check(register);
+    let n = head.map_or(0, |head| head.count as usize).saturating_sub(1);
     let mut out = [0xaa; 40];
     let listed = list(register, n, &mut out);
     let beside = NEIGHBOURS.map(|call| {
         let mut out = [0xaa; 40];
         (call.safe(register, key, &mut out), out)
     });
-    (count, lookup_place(register, key), (listed, out), beside)
+    (head, lookup_place(register, key), (listed, out), beside)
 }

@@ -51,7 +51,7 @@ module _ (c : List ℕ) (n : ℕ) (rs : List Record) where
 module _ (s c : List ℕ) (n room : ℕ) where
   screen-refuses : (r : Refusal) → judge s ≡ refused r → Refuses (screenReply s c n room) (numberOf r)
   unfolding screenOutcome screenVerdict countedAnswer countedOutput
-  screen-refuses r j = record { answer = rw j; outputs = (rw j, tt) }
+  screen-refuses r j = record { answer = rw j; outputs = (rw j, tt); head = tt }
 
 -- a name passes exactly where some lawful key has it
 name-fails : (c : List ℕ) → (CollectionName c → ⊥) → isCollectionName c ≡ false
@@ -78,7 +78,7 @@ screen-replies s name n room =
           (λ _ e₁. check whole reply (counted-refuses on count room) NoSuchScreen (ltb n count) (roomTest on room ∷ [])
           (le-ltb n count) (λ h. lt-ltb n count (omega (arith, h))) e₁
           (λ _ e₂. measured whole reply (counted-refuses on count room) on room (count ∷ []) p (omega (arith, screen-few n cs))
-          (counted-writes on count room .0) (counted-writes on count room .1) e₂));
+          (counted-writes on count room .0) (counted-writes on count room .1) tt e₂));
     }
 
 -- ---- the answer as one number

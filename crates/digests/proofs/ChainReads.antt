@@ -7,8 +7,13 @@ use native.Mathlib.Nat.{add-zero}
 use lib.ListN.{length, take, drop, getD, length-take, length-drop}
 use lib.Seq.{drop-cons, getD-take, getD-drop, take-nil}
 use Rattle.index.proofs.ChainRows.{words-at}
-use Rattle.index.specs.Chain.{Chain, LabelsAt, ChainWords, ChainsAt, noChain}
+use Rattle.index.specs.Chain.{Chain, chains, LabelsAt, ChainWords, ChainsAt, noChain}
+use Rattle.index.specs.Accepted.{ChainRow}
 use Rattle.digests.specs.Digests.{ChainsNoted}
+
+-- the chains of an accepted register
+abbrev pub row-noted : {s row : List ℕ} {n : ℕ} → ChainRow s row n → ChainsNoted s row n
+row-noted w = record { chains = chains 0 0 [] (w .tree); number = sym (w .size); room = w .room; words = w .stands }
 
 module _ {s row : List ℕ} {n : ℕ} (d : ChainsNoted s row n) (i : ℕ) (h : i < n) where
   pub chain-words : ChainWords s (getD row (2 * i) 0) (getD row (2 * i + 1) 0) (getD (d .chains) i noChain)

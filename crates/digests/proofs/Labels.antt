@@ -16,8 +16,7 @@ use Rattle.tree.specs.Table.{SpeltTree, bytesOfPage}
 use Rattle.word.specs.Word.{linkIn, aboveIn}
 use Rattle.index.specs.Chain.{Chain, onlyLink, chains, labelsRight, chainsRight, LabelsAt, ChainWords, lastLabel, Labelled, noChain}
 use Rattle.index.specs.Accepted.{ChainRow}
-use Rattle.digests.specs.Digests.{ChainsNoted}
-use Rattle.digests.proofs.ChainReads.{chain-words, linked-labels}
+use Rattle.digests.proofs.ChainReads.{row-noted, chain-words, linked-labels}
 
 -- ---- the last label
 first-right : (labels : List (List ℕ)) (t : SpeltTree) (s : List ℕ) (link at to : ℕ) → length labels ≡ 1 → LabelsAt s link at labels to → labelsRight labels t ≡ true
@@ -59,20 +58,18 @@ module _ {s : List ℕ} {w v : ℕ} {c : Chain} (words : ChainWords s w v c) (ri
       (λ q. rw (q, words .page) (last-right (c .labels) (c .here) s (linkIn w) _ (c .page) (omega (arith, number, eqb-false (aboveIn w) 0 q)) (words .labels) right))
 
 pub row-labelled : {s row : List ℕ} {n : ℕ} → ChainRow s row n → Labelled s row n
-row-labelled {s} {row} {n} r =
-    let d : ChainsNoted s row n = record { chains = chains 0 0 [] (r .tree); number = sym (r .size); room = r .room; words = r .stands } in
-    record {
-      room = r .room;
-      pages = λ i h.
-          let w = chain-words d i h in
-          let right = right-at (chains 0 0 [] (r .tree)) i (omega (arith, r .size)) (r .right) in
-          record {
-            ahead = omega (arith, w .page, w .ends);
-            within = w .within;
-            fits = λ k. label-here w right k .0;
-            digest = λ k. label-here w right k .1 ∙ ap sha256 (rw (w .page) (sym (w .bytes)));
-          };
-    }
+row-labelled {s} {row} {n} r = record {
+  room = r .room;
+  pages = λ i h.
+      let w = chain-words (row-noted r) i h in
+      let right = right-at (chains 0 0 [] (r .tree)) i (omega (arith, r .size)) (r .right) in
+      record {
+        ahead = omega (arith, w .page, w .ends);
+        within = w .within;
+        fits = λ k. label-here w right k .0;
+        digest = λ k. label-here w right k .1 ∙ ap sha256 (rw (w .page) (sym (w .bytes)));
+      };
+}
 
 -- no chains at all
 pub none-labelled : (s row : List ℕ) → Labelled s row 0

@@ -2,3 +2,4 @@ pub mod ChainReads
 pub mod LabelLoops
 pub mod RowLoops
 pub mod Labels
+pub mod Roots

@@ -6,6 +6,7 @@ use mathlib.Core.List.{List}
 use lib.ListN.{length, take, drop}
 use Rattle.word.specs.Word.{pageIn, linkIn, aboveIn, endIn}
 use Rattle.tree.specs.Table.{SpeltTree, bytesOfPage}
+use Rattle.tree.specs.Judge.{accepted, judge}
 use Rattle.index.specs.Chain.{Chain, labelsRight, chainsRight, LabelsAt, ChainsAt}
 
 -- The first words of a row are those of n chains.
@@ -30,3 +31,8 @@ ChainSays s w v r =
 -- The same of all chains of a row.
 abbrev pub DigestsSay : List ℕ → List ℕ → ℕ → Bool → Type 0
 DigestsSay s row n r = (d : ChainsNoted s row n) → r ≡ chainsRight (d .chains)
+
+-- The root of a register that is accepted ends here.
+pub record RootEnd (s : List ℕ) (to : ℕ) : Type 0 where
+  pub within : to ≤ length s
+  pub bytes : (t : SpeltTree) → judge s ≡ accepted t → take to s ≡ bytesOfPage t

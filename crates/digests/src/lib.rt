@@ -1,5 +1,6 @@
 // The digests of a register's pages: one pass over the row of its chains. The functions are for the crates above and no public calls.
 use sha256::digest_of;
+use value::Digest;
 use value::same_digest;
 use word::above_in;
 use word::end_in;
@@ -11,8 +12,11 @@ ghost use lib.ListN.{length, take, drop};
 ghost use Rattle.bytestring.specs.Bytes.{equal};
 ghost use Rattle.value.specs.Value.{digestIn};
 ghost use Rattle.fips180.specs.Hash.{sha256};
+ghost use Rattle.tree.specs.Table.{SpeltTree, bytesOfPage};
+ghost use Rattle.tree.specs.Judge.{accepted, judge};
+ghost use Rattle.index.specs.Accepted.{ChainRow};
 ghost use Rattle.word.specs.Word.{pageIn, aboveIn, endIn};
-ghost use Rattle.digests.specs.Digests.{ChainsNoted, LabelsSay, ChainSays, DigestsSay};
+ghost use Rattle.digests.specs.Digests.{ChainsNoted, LabelsSay, ChainSays, DigestsSay, RootEnd};
 
 // Whether the digest at the place link is that of the page from at to to.
 fn link_holds(s: &[u8], link: usize, at: usize, to: usize) -> bool
@@ -66,4 +70,24 @@ pub fn digests_hold(s: &[u8], row: &[u64], n: usize) -> bool
         i += 1;
     }
     true
+}
+
+// Where the root of an accepted register ends: its chain is the first, and a register without chains has no other page.
+pub fn root_end(s: &[u8], row: &[u64], n: usize) -> usize
+    requires { ⌜ ChainRow (now s) (now row) n ⌝ }
+    ensures { λ r. ⌜ RootEnd (now (s .entry)) r ⌝ }
+{
+    if n == 0 {
+        return s.len();
+    }
+    end_in(row[1])
+}
+
+// The digest of the root of an accepted register.
+pub fn root_digest(s: &[u8], row: &[u64], n: usize) -> Digest
+    requires { ⌜ ChainRow (now s) (now row) n ⌝ }
+    ensures { λ r. ⌜ ((t : SpeltTree) → judge (now (s .entry)) ≡ accepted t → r ≡ sha256 (bytesOfPage t)) ⌝ }
+{
+    let end = root_end(s, row, n);
+    digest_of(&s[..end])
 }

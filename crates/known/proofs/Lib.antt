@@ -1,4 +1,3 @@
-pub mod Roots
 pub mod LinkTable
 pub mod ChainRows
 pub mod Labels

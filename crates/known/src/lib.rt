@@ -1,10 +1,6 @@
 // The digests of a register's pages: the root's, and the labels of its chains. A table of labels finds a digest by its first bits, so that
 // a page is not compared with every page. The functions are for the crates above and no public calls.
-use page_reader::PageRead;
-use page_reader::read_page;
-use sha256::digest_of;
 use value::DIGEST;
-use value::Digest;
 use value::same_digest;
 use word::above_in;
 use word::link_in;
@@ -17,9 +13,6 @@ ghost use Prim.Native.Nat.{_+_, _*_, _^_, _≤_, _<_};
 ghost use lib.ListN.{length};
 ghost use Rattle.value.specs.Value.{digestLength};
 ghost use Rattle.bytestring.specs.Bytes.{zeros};
-ghost use Rattle.fips180.specs.Hash.{sha256};
-ghost use Rattle.tree.specs.Table.{SpeltTree, bytesOfPage};
-ghost use Rattle.tree.specs.Judge.{accepted, judge};
 ghost use Rattle.word.specs.Word.{pageIn, aboveIn};
 ghost use Rattle.known.specs.Rows.{SomeChains, labelCount, labelPlace, SomeLabels};
 ghost use Rattle.known.specs.Known.{firstBits, LinkFits, Linked, Tabled, AddedLink, AddedChain, Filled, InTable, IsKnown, OpenLabels};
@@ -117,19 +110,6 @@ pub fn fill(
         i += 1;
     }
     i
-}
-
-// The digest of the first page.
-pub fn root_digest(s: &[u8]) -> Digest
-    ensures { λ r. ⌜ ((t : SpeltTree) → judge (now (s .entry)) ≡ accepted t → r ≡ sha256 (bytesOfPage t)) ⌝ }
-{
-    match read_page(s, 0) {
-        PageRead::Page(p) => {
-            let end = p.end;
-            digest_of(&s[..end])
-        }
-        PageRead::PageStop(_) => [0u8; DIGEST],
-    }
 }
 
 // Whether a digest is among the links in the table.

@@ -3,3 +3,4 @@ pub mod Ranges
 pub mod RunEnds
 pub mod Holding
 pub mod Measures
+pub mod RowRecords

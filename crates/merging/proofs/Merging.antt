@@ -12,23 +12,25 @@ use Rattle.tree.specs.Judge.{due, refused, accepted, judge}
 use Rattle.row.specs.Row.{Row}
 use Rattle.row.proofs.Rows.{word-small}
 use Rattle.promises.specs.Map.{merge}
-use Rattle.promises.specs.Outcome.{stopped, mergePlan, mergeOutcome}
+use Rattle.head.specs.declared.Head.{Head}
+use Rattle.promises.specs.Moved.{stopped, mergePlan, mergeOutcome}
 use Rattle.row_words.specs.RowWords.{BelowSecond, ToSecond}
 use Rattle.choice.specs.Choice.{wovenOf}
 use Rattle.choice.proofs.Weaving.{weave-merge}
 use Rattle.reading.proofs.Verdicts.{Accepting, t, sorted, records-first, row-second, records-second}
-use Rattle.writing.specs.Writing.{written}
-use Rattle.writing.proofs.Writing.{plan-stopped, plan-written}
+use Rattle.checking.specs.Lent.{TrueOf}
+use Rattle.writing.specs.Writing.{movedTo}
+use Rattle.writing.proofs.Moving.{plan-stopped, plan-written}
 
 -- ---- the outcome
-module _ (s u : List ℕ) (room : ℕ) (t : SpeltTree) (e : judge s ≡ accepted t) where
-  pub merge-second-refused : {r : Refusal} → judge u ≡ refused r → mergeOutcome s u room ≡ stopped r
+module _ (s : List ℕ) (h : Head) (u : List ℕ) (room : ℕ) (t : SpeltTree) (e : judge s ≡ accepted t) (own : TrueOf s h) where
+  pub merge-second-refused : {r : Refusal} → judge u ≡ refused r → mergeOutcome s h u room ≡ stopped r
   unfolding mergeOutcome mergePlan due
-  merge-second-refused f = plan-stopped s (mergePlan (judge u)) room t e (rw f)
+  merge-second-refused f = plan-stopped h (mergePlan (judge u)) room s t e own (rw f)
 
-  pub merge-written : (w : SpeltTree) → judge u ≡ accepted w → written (merge (records t) (records w)) room ≡ mergeOutcome s u room
+  pub merge-written : (w : SpeltTree) → judge u ≡ accepted w → movedTo (merge (records t) (records w)) room ≡ mergeOutcome s h u room
   unfolding mergeOutcome mergePlan due
-  merge-written w f = rw f (plan-written s (mergePlan (accepted w)) room t e refl)
+  merge-written w f = rw f (plan-written h (mergePlan (accepted w)) room s t e own refl)
 
 -- ---- the words of the second register
 module _ {u others : List ℕ} {m : ℕ} (b : Accepting u others m) where
@@ -44,9 +46,10 @@ module _ {u others : List ℕ} {m : ℕ} (b : Accepting u others m) where
     unfolding ToSecond
     moved-row s = row-second b s others′ within moved
 
-    pub merge-done : {s index : List ℕ} {n : ℕ} → Accepting s index n → (out : ℕ) → written (wovenOf true s u index n others′ m) out ≡ mergeOutcome s u out
+    pub merge-done : {s index : List ℕ} {n : ℕ} → Accepting s index n → (h : Head) → TrueOf s h → (out : ℕ)
+        → movedTo (wovenOf true s u index n others′ m) out ≡ mergeOutcome s h u out
     unfolding ToSecond wovenOf
-    merge-done {s} a out =
-        ap (λ (rs : List Record). written rs out)
+    merge-done {s} a h own out =
+        ap (λ (rs : List Record). movedTo rs out)
         (rw (records-first a u, records-second b s others′ within moved) (weave-merge (records (t b)) (records (t a)) (sorted b)))
-        ∙ merge-written s u out (t a) (a .given .judged) (t b) (b .given .judged)
+        ∙ merge-written s h u out (t a) (a .given .judged) own (t b) (b .given .judged)

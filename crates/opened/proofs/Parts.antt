@@ -11,7 +11,7 @@ use Rattle.bytestring.specs.Bytes.{Bytes, equal}
 use Rattle.fips180.specs.Hash.{sha256}
 use Rattle.tree.specs.Table.{SpeltTree, bytesOfPage}
 use Rattle.tree.specs.Judge.{accepted, judge}
-use Rattle.tree.proofs.Accept.{accepted-table}
+use Rattle.tree.proofs.Accept.{accepted-table, one-tree}
 use Rattle.index.specs.Accepted.{ChainRow}
 use Rattle.index.specs.Chain.{Chain, chains, noChain}
 use Rattle.promises.specs.Pages.{known}
@@ -153,14 +153,10 @@ module _ (s known : List ℕ) (n : ℕ) (u row : List ℕ) (m : ℕ) (root top :
         → MarksAt (root ∷ labelsOf (take done (chains 0 0 [] t))) marks 0 0 (chains 0 0 [] v) × (opens ≡ not (isAmong (root ∷ labelsOf (take done (chains 0 0 [] t))) top))
         × (length (chains 0 0 [] t) ≡ n)
     taken t v h k =
-        let e : accepted (w .tree) ≡ accepted t = sym (w .judged) ∙ h in
-        let f : accepted (x .tree) ≡ accepted v = sym (x .judged) ∙ k in
-        let p : w .tree ≡ t = cc in
-        let q : x .tree ≡ v = cc in
         let y = row-chains s known n bytes w in
         let z = row-chains u row m others x in
         let both = so-far (chains 0 0 [] (w .tree)) (chains 0 0 [] (x .tree)) y z in
-        rw (← p, ← q) (both .0, both .1, y .size)
+        rw (← one-tree s (w .judged) h, ← one-tree u (x .judged) k) (both .0, both .1, y .size)
 
     pub all-taken : n ≤ done → (t v : SpeltTree) → judge s ≡ accepted t → judge u ≡ accepted v → AllMarked t v marks opens
     all-taken l t v h k =

@@ -12,7 +12,7 @@ use Rattle.fips180.specs.Hash.{sha256}
 use Rattle.tree.specs.Record.{records}
 use Rattle.tree.specs.Table.{SpeltTree, bytesOfPage}
 use Rattle.tree.specs.Judge.{accepted, judge}
-use Rattle.tree.proofs.Accept.{accepted-table}
+use Rattle.tree.proofs.Accept.{accepted-table, one-tree}
 use Rattle.index.specs.Accepted.{AcceptedIndex, ChainRow}
 use Rattle.index.specs.Chain.{Chain, chains as pageChains}
 use Rattle.row.proofs.Rows.{word-small}
@@ -63,9 +63,7 @@ module _ (s known : List ℕ) (n : ℕ) (u chains index : List ℕ) (m count : �
 
   words-all : length (take count index) ≡ length (records v)
   words-all =
-      let e : accepted (y .tree) ≡ accepted v = sym (y .judged) ∙ x .judged in
-      let f : y .tree ≡ v = cc in
-      length-take-le count index (y .room) ∙ y .size ∙ ap (λ (z : SpeltTree). length (records z)) f
+      length-take-le count index (y .room) ∙ y .size ∙ ap (λ (z : SpeltTree). length (records z)) (one-tree u (y .judged) (x .judged))
 
   staging : opens ≡ true → Staging u chains m marks (take count index) (digestsOf t) (pageChains 0 0 [] v)
   staging h = record { chained = row-chains u chains m others x; marked = taken .marks h; ordered = rw words-all (spans .1 .ordered) }
@@ -91,9 +89,7 @@ module _ (s known : List ℕ) (n : ℕ) (u chains index : List ℕ) (m count : �
   retell : (r : Opening) (row : List ℕ) → OpenedStaged first v index count r row → (z : SpeltTree) → judge u ≡ accepted z → OpenedStaged (pagesIn (judge s)) z index count r row
   unfolding pagesIn
   retell r row o z h =
-      let e : accepted v ≡ accepted z = sym (x .judged) ∙ h in
-      let f : v ≡ z = cc in
-      rw (w .judged, ← f) o
+      rw (w .judged, ← one-tree u (x .judged) h) o
 
   pub none-opened : not opens ≡ true → (row : List ℕ) (z : SpeltTree) → judge u ≡ accepted z → OpenedStaged (pagesIn (judge s)) z index count (record { staged = 0; opened = 0 }) row
   none-opened h row = retell (record { staged = 0; opened = 0 }) row (closed-staged (not-true opens h) row)

@@ -1,9 +1,9 @@
 // The passes over the second register's chains: they mark the known pages, count the opened ones and stage the words of their records.
+use digests::root_digest;
 use known::fill;
 use known::is_known;
 use known::label_count;
 use known::open_labels;
-use known::root_digest;
 use limits::MOST;
 use word::below_in;
 use word::from_in;
@@ -117,8 +117,8 @@ fn mark_known(
     requires { ⌜ ChainRow (now s) (now known) n × ChainRow (now u) (now chains) m × (m ≤ length (now marks)) × (length (now s) ≤ longest) ⌝ }
     ensures { λ r. ⌜ ((t v : SpeltTree) → judge (now (s .entry)) ≡ accepted t → judge (now (u .entry)) ≡ accepted v → AllMarked t v (now (marks .exit)) r) ⌝ }
 {
-    let root = root_digest(s);
-    let top = root_digest(u);
+    let root = root_digest(s, known, n);
+    let top = root_digest(u, chains, m);
     let mut heads = [0u32; 4096];
     let mut words = [0u64; 4096];
     begin_marks(chains, m, marks);

@@ -43,7 +43,7 @@ module _ (path : List ℕ) (room : ℕ) where
 
   settled-refuses : (r : Refusal) → Refuses (settledBy (some r)) (numberOf r)
   unfolding settlePath answerOf outputOf
-  settled-refuses r = record { answer = refl; outputs = (refl, tt) }
+  settled-refuses r = record { answer = refl; outputs = (refl, tt); head = tt }
 
   settled-writes : (settledBy none .answer ≡ doneWith (length path ∷ [])) × (settledBy none .outputs ≡ filled room path ∷ [])
   unfolding settlePath answerOf outputOf
@@ -51,7 +51,7 @@ module _ (path : List ℕ) (room : ℕ) where
 
 path-refuses : (s k : List ℕ) (room : ℕ) (r : Refusal) → judge s ≡ refused r → Refuses (pathReply s k room) (numberOf r)
 unfolding pathOutcome pathVerdict answerOf outputOf
-path-refuses s k room r j = record { answer = rw j; outputs = (rw j, tt) }
+path-refuses s k room r j = record { answer = rw j; outputs = (rw j, tt); head = tt }
 
 pub path-replies : PathReplies
 unfolding pathOutcome pathVerdict due
@@ -73,11 +73,11 @@ path-replies s key room = record {
 -- ---- verify
 -- what a verdict replies
 abbrev verdictReply : PathVerdict → Reply
-verdictReply v = record { answer = said (verifyAnswer v); outputs = [] }
+verdictReply v = record { answer = said (verifyAnswer v); outputs = []; head = none }
 
 stop-refuses : (whole : Reply) (r : Refusal) → whole ≡ verdictReply (stopped r) → Refuses whole (numberOf r)
 unfolding verifyAnswer
-stop-refuses whole r e = subst (λ (q : Reply). Refuses q (numberOf r)) (sym e) (record { answer = refl; outputs = tt })
+stop-refuses whole r e = subst (λ (q : Reply). Refuses q (numberOf r)) (sym e) (record { answer = refl; outputs = tt; head = tt })
 
 module _ (v : PathVerdict) where
   -- the reply by the first number that is due

@@ -26,7 +26,7 @@ abbrev pub pathReply : List ℕ → List ℕ → ℕ → Reply
 pathReply s k room = writingReply (pathOutcome s k room) room
 
 abbrev pub verifyReply : List ℕ → List ℕ → List ℕ → Reply
-verifyReply path k root = record { answer = said (verifyAnswer (verifyVerdict path k root)); outputs = [] }
+verifyReply path k root = record { answer = said (verifyAnswer (verifyVerdict path k root)); outputs = []; head = none }
 
 -- ---- path
 -- The key argument; 13 where the path is longer than the output. The path is written, and its length is answered.

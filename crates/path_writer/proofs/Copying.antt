@@ -13,8 +13,7 @@ use Rattle.word.specs.Word.{linkIn, aboveIn, endIn, fromIn, recordsIn}
 use Rattle.index.specs.Chain.{Chain, onlyLink, chains, LabelsAt, ChainWords, noChain}
 use Rattle.index.specs.Accepted.{ChainRow}
 use Rattle.index.proofs.ChainRows.{labels-end}
-use Rattle.digests.specs.Digests.{ChainsNoted}
-use Rattle.digests.proofs.ChainReads.{chain-words}
+use Rattle.digests.proofs.ChainReads.{row-noted, chain-words}
 use Rattle.path_writer.specs.Chains.{covers, emptyPages, chainBytes, pagesAt, covering}
 use Rattle.path_writer.proofs.Covering.{covering-append}
 
@@ -41,9 +40,6 @@ chain-bytes {s} {w} {v} {c} words =
     rw (words .page) (labels-part s (linkIn w) start (c .labels) (c .page) (words .labels) (endIn v - start) (endIn v - c .page) size ∙ rw (words .bytes))
 
 -- ---- chain by chain
-abbrev pub noted : {s row : List ℕ} {n : ℕ} → ChainRow s row n → ChainsNoted s row n
-noted w = record { chains = chains 0 0 [] (w .tree); number = sym (w .size); room = w .room; words = w .stands }
-
 -- The output o has got the pages of those of the first i chains that hold the positions.
 pub record Copied (cs : List Chain) (low high : ℕ) (o out : List ℕ) (next i : ℕ) : Type 0 where
   pub size : next ≡ length (covering low high (take i cs))
@@ -80,7 +76,7 @@ module _ {s row : List ℕ} {n low high : ℕ} {o out : List ℕ} {next i : ℕ}
       chain = getD cs i noChain
 
       words : ChainWords s word span chain
-      words = chain-words (noted w) i h
+      words = chain-words (row-noted w) i h
 
       one-more : covering low high (take (i + 1) cs) ≡ covering low high (take i cs) ++ covering low high (chain ∷ [])
       one-more =

@@ -17,7 +17,7 @@ use Rattle.key.proofs.SlashLaws.{slash-refused}
 use Rattle.tree.specs.Record.{records}
 use Rattle.tree.specs.Table.{SpeltTree, digestOf, treeOfSet}
 use Rattle.tree.specs.Judge.{due, refused, accepted, judge}
-use Rattle.tree.proofs.Laws.{Accepted, accepted-table, tree-right}
+use Rattle.tree.proofs.Laws.{Accepted, accepted-table, one-tree, tree-right}
 use Rattle.index.specs.Slot.{slots, levelSlots, filled}
 use Rattle.index.specs.Walk.{holding}
 use Rattle.index.specs.Chain.{Chain, chains}
@@ -52,10 +52,7 @@ module _ {s row : List ℕ} {n : ℕ} (w : ChainRow s row n) where
   module _ (low high room : ℕ) {answer : Answer} {out : List ℕ} where
     says : PathMeasured (pathAmong low high (w .tree) cs) room answer out → PathSays s low high room answer out
     unfolding PathSays
-    says x u h =
-        let e : accepted (w .tree) ≡ accepted u = sym (w .judged) ∙ h in
-        let f : w .tree ≡ u = cc in
-        rw (← f) x
+    says x u h = rw (← one-tree s (w .judged) h) x
 
     pub chains-say : 0 < n → PathMeasured (covering low high cs) room answer out → PathSays s low high room answer out
     chains-say h x = says (rw (some-chains low high (w .tree) cs (omega (arith, w .size))) x)
@@ -97,9 +94,7 @@ module _ (s k : List ℕ) {index : List ℕ} {count : ℕ} (a : Accepting s inde
   pub short-path : ShortPath s low high
   unfolding ShortPath
   short-path u e =
-      let b : accepted u ≡ accepted (t a) = sym e ∙ a .given .judged in
-      let same : u ≡ t a = cc in
-      rw (same, path-is) (path-longest k s (t a) (accepted-table s (a .bytes) (t a) (a .given .judged)))
+      rw (one-tree s e (a .given .judged), path-is) (path-longest k s (t a) (accepted-table s (a .bytes) (t a) (a .given .judged)))
 
 -- ---- the verdict
 module _ (s k : List ℕ) (room : ℕ) where

@@ -6,6 +6,7 @@ pub mod OpenedLaws
 pub mod CountedLaws
 pub mod DifferenceLaws
 pub mod Orders
+pub mod TrueHeads
 pub mod Promises
 pub mod ListingLaws
 pub mod RangeLaws

@@ -1,7 +1,7 @@
 -- From the tests of a call to its reply: each test is one check in the order.
 use Prim.Native.Nat.{ℕ, _≤_, _<_}
 use mathlib.Core.Path.{_≡_, refl, sym, ap, subst, _∙_}
-use mathlib.Core.Bool.{Bool, true, false, cond, _&&_, and-false}
+use mathlib.Core.Bool.{Bool, true, false, cond, _&&_, and-false, false≢true}
 use mathlib.Core.Logic.{_⊎_, inl, inr}
 use mathlib.Core.Option.{Option, none, some}
 use mathlib.Core.List.{List, [], _∷_, _++_}
@@ -15,7 +15,7 @@ use Rattle.bytestring.proofs.Tools.{and-both}
 use Rattle.bytestring.specs.Bytes.{ByteString, equal}
 use Rattle.answer.specs.Answer.{numberOf, doneWith, said}
 use Rattle.answer.specs.declared.Refusal.{Refusal}
-use Rattle.answer.specs.declared.Refusal.the-variants.{TooManyRecords, UnlawfulKey, ValueLength, KeyAbsent, NoRoom}
+use Rattle.answer.specs.declared.Refusal.the-variants.{TooManyRecords, UnlawfulKey, ValueLength, KeyAbsent, NoRoom, UntrueHead}
 use Rattle.key.specs.Key.{lawful, less}
 use Rattle.key.proofs.Lawful.{slash-none}
 use Rattle.key.proofs.SlashLaws.{slash-stands}
@@ -25,14 +25,18 @@ use Rattle.tree.specs.Table.{SpeltTree, treeOfSet, tableOf}
 use Rattle.tree.specs.Judge.{Test, due, fits, Verdict, refused, accepted, judge}
 use Rattle.tree.specs.Place.{places}
 use Rattle.tree.proofs.Laws.{LawfulKey, RightValue, fitting, fitting-fits, records-of-set, table-accepted, accepted-table, Stand, places-stand}
+use Rattle.head.specs.declared.Head.{Head}
+use Rattle.head.specs.Head.{headOf, sameHead}
+use Rattle.head.proofs.Laws.{same-head, head-same}
 use Rattle.promises.specs.Map.{find, isThere, put, join, remove, merge, greaterFound, nth}
 use Rattle.promises.specs.Pages.{pagesOf, openedPages, inPages}
-use Rattle.promises.specs.Outcome.{checkVerdict, checkAnswer, placeOf, answerPlace, lookupVerdict, lookupAnswer, Listed, unlisted, pastTheEnd, listed, listRecord, listVerdict, listOutcome, listAnswer, listKey, listValue, Plan, roomTest, sizes, settle, carryOut, putPlan, joinPlan, removePlan, mergePlan, onFirst, putOutcome, joinOutcome, removeOutcome, mergeOutcome, answerOf, outputOf}
+use Rattle.promises.specs.Outcome.{checkVerdict, checkOutcome, placeOf, answerPlace, lookupVerdict, lookupAnswer, Listed, unlisted, pastTheEnd, listed, listRecord, listVerdict, listOutcome, listAnswer, listKey, listValue, roomTest, sizes, settle, answerOf, outputOf}
+use Rattle.promises.specs.Moved.{settleMoved, Plan, putPlan, joinPlan, removePlan, mergePlan, carryOut, onFirst, putOutcome, joinOutcome, removeOutcome, mergeOutcome, movedAnswer, movedOutput, movedHead}
 use Rattle.promises.specs.Counted.{settleCounted, countedAnswer, countedOutput}
 use Rattle.promises.specs.Difference.{differenceRecords, differenceVerdicts, differenceOutcome}
 use Rattle.promises.specs.Register.{RegisterOf}
-use Rattle.promises.specs.Reply.{Reply, recordReply, writingReply, countedReply, differenceReply}
-use Rattle.promises.specs.Order.{AllZero, Refuses, Judged, Check, filled, Measured, ResultFinds, GivesRecord}
+use Rattle.promises.specs.Reply.{Reply, recordReply, writingReply, movedReply, countedReply, differenceReply}
+use Rattle.promises.specs.Order.{AllZero, HeadIs, Refuses, Check, filled, Measured, ResultFinds, GivesRecord, LentHead}
 use Rattle.promises.specs.Promises.{SlashReplies, CheckReplies, LookupReplies, ListReplies, PutReplies, JoinReplies, RemoveReplies, MergeReplies, DifferenceReplies, DifferenceIsExact}
 use Rattle.promises.proofs.MapLaws.{sorted-rising, nth-past, find-merge, Proper, fits-proper, proper-put, proper-join, proper-remove, proper-merge}
 use Rattle.promises.proofs.Steps.{put-finds, join-finds, remove-finds}
@@ -71,6 +75,14 @@ unfolding isThere
 absent-passes none h = absurd (h refl)
 absent-passes (some a) h = refl
 
+-- a lent head and the register's own
+module _ (lent own : Head) where
+  other-head : (lent ≡ own → ⊥) → sameHead lent own ≡ false
+  other-head h = cases (sameHead lent own) (λ e. absurd (h (same-head lent own e))) (λ e. e)
+
+  own-head : ((lent ≡ own → ⊥) → ⊥) → sameHead lent own ≡ true
+  own-head h = cases (sameHead lent own) (λ e. e) (λ e. absurd (h (λ q. false≢true (sym e ∙ ap (sameHead lent) (sym q) ∙ head-same lent))))
+
 abbrev TooLarge : ℕ → ℕ → Type 0
 TooLarge n room = (room < n) ⊎ (4194304 < n)
 
@@ -94,9 +106,9 @@ module _ (whole : Reply) (reply : Option Refusal → Reply) (refuses : (r : Refu
   -- the output
   pub measured : (rs : List Record) (room : ℕ) (others : List ℕ) → Proper rs → length rs ≤ most
       → reply none .answer ≡ doneWith (length (tableOf rs) ∷ others) → reply none .outputs ≡ filled room (tableOf rs) ∷ []
-      → whole ≡ reply (due (roomTest rs room ∷ [])) → Measured whole room others rs
+      → HeadIs (reply none .head) (λ _. headOf rs) → whole ≡ reply (due (roomTest rs room ∷ [])) → Measured whole room others rs
   unfolding due
-  measured rs room others p few answer outputs e =
+  measured rs room others p few answer outputs head e =
       let size : ℕ = length (tableOf rs) in
       check NoRoom (leb size room && leb size longest) [] (size-fails size room)
       (λ h. and-both (le-leb size room (within size room (λ l. h (inl l)))) (le-leb size longest (within size longest (λ l. h (inr l))))) e
@@ -104,23 +116,25 @@ module _ (whole : Reply) (reply : Option Refusal → Reply) (refuses : (r : Refu
         register = register-of rs (fitting-fits rs (record { count = few; order = sorted-rising rs (p .order); keys = p .keys; values = p .values; size = within size longest (λ l. fit (inr l)) }));
         answer = ap (λ (q : Reply). q .answer) done ∙ answer;
         outputs = ap (λ (q : Reply). q .outputs) done ∙ outputs;
+        head = subst (λ (q : Reply). HeadIs (q .head) (λ _. headOf rs)) (sym done) head;
       })
 
   -- last the resulting count and the output
   last : (rs : List Record) (room : ℕ) (others : List ℕ) (finds : List ℕ → Option (List ℕ)) → Proper rs
       → ((key : List ℕ) → find key rs ≡ finds key) → reply none .answer ≡ doneWith (length (tableOf rs) ∷ others)
-      → reply none .outputs ≡ filled room (tableOf rs) ∷ [] → whole ≡ reply (due (sizes rs room)) → ResultFinds whole room others finds
+      → reply none .outputs ≡ filled room (tableOf rs) ∷ [] → HeadIs (reply none .head) (λ _. headOf rs)
+      → whole ≡ reply (due (sizes rs room)) → ResultFinds whole room others finds
   unfolding sizes
-  last rs room others finds p f answer outputs e = record {
+  last rs room others finds p f answer outputs head e = record {
     result = rs;
     inOrder = sorted-rising rs (p .order);
     found = f;
     last = check TooManyRecords (leb (length rs) most) (roomTest rs room ∷ [])
         (lt-leb (length rs) most) (λ h. le-leb (length rs) most (within (length rs) most h)) e
-        (λ few. measured rs room others p (within (length rs) most few) answer outputs);
+        (λ few. measured rs room others p (within (length rs) most few) answer outputs head);
   }
 
--- ---- put, join, remove, merge
+-- ---- a call that writes a table and nothing else
 module _ (rs : List Record) (room : ℕ) where
   -- the reply by the first number that is due
   abbrev pub settledReply : Option Refusal → Reply
@@ -128,44 +142,49 @@ module _ (rs : List Record) (room : ℕ) where
 
   pub settled-refuses : (r : Refusal) → Refuses (settledReply (some r)) (numberOf r)
   unfolding settle answerOf outputOf
-  settled-refuses r = record { answer = refl; outputs = (refl, tt) }
+  settled-refuses r = record { answer = refl; outputs = (refl, tt); head = tt }
 
   pub settled-writes : (settledReply none .answer ≡ doneWith (length (tableOf rs) ∷ [])) × (settledReply none .outputs ≡ filled room (tableOf rs) ∷ [])
   unfolding settle answerOf outputOf
   settled-writes = (refl, refl)
 
-  writing-last : (whole : Reply) (finds : List ℕ → Option (List ℕ)) → Proper rs → ((key : List ℕ) → find key rs ≡ finds key)
-      → whole ≡ settledReply (due (sizes rs room)) → ResultFinds whole room [] finds
-  writing-last whole finds p f e =
-      last whole settledReply settled-refuses rs room [] finds p f (settled-writes .0) (settled-writes .1) e
+-- ---- put, join, remove, merge
+module _ (lent : Head) (rs : List Record) (room : ℕ) where
+  -- the reply by the first number that is due
+  abbrev movedBy : Option Refusal → Reply
+  movedBy o = movedReply (settleMoved o rs) lent room
 
--- a register that is refused refuses the call
-module _ (s : List ℕ) (plan : List Record → Plan) (room : ℕ) where
+  moved-refuses : (r : Refusal) → Refuses (movedBy (some r)) (numberOf r)
+  unfolding settleMoved movedAnswer movedOutput movedHead
+  moved-refuses r = record { answer = refl; outputs = (refl, tt); head = refl }
+
+  moved-last : (whole : Reply) (finds : List ℕ → Option (List ℕ)) → Proper rs → ((key : List ℕ) → find key rs ≡ finds key)
+      → whole ≡ movedBy (due (sizes rs room)) → ResultFinds whole room [] finds
+  unfolding settleMoved movedAnswer movedOutput movedHead
+  moved-last whole finds p f e = last whole movedBy moved-refuses rs room [] finds p f refl refl refl e
+
+-- the first register and its head
+module _ (s : List ℕ) (lent : Head) (plan : List Record → Plan) (room : ℕ) where
   abbrev planned : Reply
-  planned = writingReply (onFirst (judge s) plan room) room
+  planned = movedReply (onFirst (judge s) lent plan room) lent room
 
-  first-refuses : (r : Refusal) → judge s ≡ refused r → Refuses planned (numberOf r)
-  unfolding onFirst answerOf outputOf
-  first-refuses r j = record { answer = rw j; outputs = (rw j, tt) }
+  abbrev tested : List Record → List Test
+  tested m = plan m .asks ++ sizes (plan m .result) room
 
-  first-accepts : (t : SpeltTree) → judge s ≡ accepted t
-      → planned ≡ settledReply (plan (records t) .result) room (due (plan (records t) .asks ++ sizes (plan (records t) .result) room))
-  unfolding onFirst carryOut
-  first-accepts t j = rw j
-
--- the second register's verdict, after the first was accepted
-module _ (s : List ℕ) (v : Verdict) (room : ℕ) (t : SpeltTree) (j : judge s ≡ accepted t) where
-  second-refuses : (r : Refusal) → v ≡ refused r → Refuses (planned s (mergePlan v) room) (numberOf r)
-  unfolding onFirst carryOut mergePlan due settle answerOf outputOf
-  second-refuses r k = record { answer = rw (j, k); outputs = (rw (j, k), tt) }
-
-  second-accepts : (w : SpeltTree) → v ≡ accepted w
-      → planned s (mergePlan v) room ≡ settledReply (merge (records t) (records w)) room (due (sizes (merge (records t) (records w)) room))
-  unfolding onFirst carryOut mergePlan
-  second-accepts w k = rw (j, k)
+  lent-head : (goesOn : SpeltTree → Type 0)
+      → ((t : SpeltTree) → judge s ≡ accepted t → planned ≡ movedBy lent (plan (records t) .result) room (due (tested (records t))) → goesOn t)
+      → LentHead s lent planned goesOn
+  unfolding onFirst carryOut movedAnswer movedOutput movedHead
+  lent-head goesOn later = record {
+    refuses = λ r j. record { answer = rw j; outputs = (rw j, tt); head = rw j };
+    accepts = λ t j.
+        let own : Head = headOf (records t) in
+        check planned (movedBy lent (plan (records t) .result) room) (moved-refuses lent (plan (records t) .result) room)
+        UntrueHead (sameHead lent own) (tested (records t)) (other-head lent own) (own-head lent own) (rw j) (λ _. later t j);
+  }
 
 -- put and join, by what they make of the record and the set
-module _ (s : ByteString) (k v : List ℕ) (room : ℕ) (set : Record → List Record → List Record) where
+module _ (s : ByteString) (lent : Head) (k v : List ℕ) (room : ℕ) (set : Record → List Record → List Record) where
   abbrev r : Record
   r = record { key = k; val = v }
 
@@ -175,68 +194,73 @@ module _ (s : ByteString) (k v : List ℕ) (room : ℕ) (set : Record → List R
   set-order : (finds : SpeltTree → List ℕ → Option (List ℕ))
       → (LawfulKey r → RightValue r → (m : List Record) → Proper m → Proper (set r m))
       → ((t : SpeltTree) (key : List ℕ) → find key (set r (records t)) ≡ finds t key)
-      → Judged (s .list) (planned (s .list) setPlan room) (λ t.
-      Check (planned (s .list) setPlan room) 7 (lawful k ≡ false)
-      (Check (planned (s .list) setPlan room) 11 (length v ≡ 32 → ⊥)
-      (ResultFinds (planned (s .list) setPlan room) room [] (finds t))))
-  set-order finds proper found = record {
-    refuses = first-refuses (s .list) setPlan room;
-    accepts = λ t j.
-        let rs : List Record = set r (records t) in
-        let whole = planned (s .list) setPlan room in
-        let reply = settledReply rs room in
-        check whole reply (settled-refuses rs room) UnlawfulKey (lawful k) ((ValueLength, isValue v) ∷ sizes rs room)
-        (λ h. h) (lawful-passes (lawful k)) (first-accepts (s .list) setPlan room t j)
-        (λ l e₁. check whole reply (settled-refuses rs room) ValueLength (isValue v) (sizes rs room) (value-fails v) (value-passes v) e₁
-        (λ w e₂. writing-last rs room whole (finds t) (proper (lawful-passes (lawful k) l) (value-passes v w) (records t) (accepted-proper s t j)) (found t) e₂));
-  }
+      → LentHead (s .list) lent (planned (s .list) lent setPlan room) (λ t.
+      Check (planned (s .list) lent setPlan room) 7 (lawful k ≡ false)
+      (Check (planned (s .list) lent setPlan room) 11 (length v ≡ 32 → ⊥)
+      (ResultFinds (planned (s .list) lent setPlan room) room [] (finds t))))
+  set-order finds proper found =
+      let whole = planned (s .list) lent setPlan room in
+      lent-head (s .list) lent setPlan room _ (λ t j e₀.
+      let rs : List Record = set r (records t) in
+      let reply = movedBy lent rs room in
+      check whole reply (moved-refuses lent rs room) UnlawfulKey (lawful k) ((ValueLength, isValue v) ∷ sizes rs room)
+      (λ h. h) (lawful-passes (lawful k)) e₀
+      (λ l e₁. check whole reply (moved-refuses lent rs room) ValueLength (isValue v) (sizes rs room) (value-fails v) (value-passes v) e₁
+      (λ w e₂. moved-last lent rs room whole (finds t) (proper (lawful-passes (lawful k) l) (value-passes v w) (records t) (accepted-proper s t j)) (found t) e₂)))
 
 pub put-replies : PutReplies
 unfolding putOutcome putPlan
-put-replies s k v room =
-    set-order s (k .list) (v .list) room put (λ t key. cond (equal key (k .list)) (some (v .list)) (find key (records t)))
+put-replies s h k v room =
+    set-order s h (k .list) (v .list) room put (λ t key. cond (equal key (k .list)) (some (v .list)) (find key (records t)))
     (proper-put (record { key = k .list; val = v .list })) (λ t key. put-finds (k .list) (records t) key (v .list))
 
 pub join-replies : JoinReplies
 unfolding joinOutcome joinPlan
-join-replies s k v room =
-    set-order s (k .list) (v .list) room join
+join-replies s h k v room =
+    set-order s h (k .list) (v .list) room join
     (λ t key. cond (equal key (k .list)) (greaterFound (find key (records t)) (some (v .list))) (find key (records t)))
     (proper-join (record { key = k .list; val = v .list })) (λ t key. join-finds (k .list) (records t) key (v .list))
 
 pub remove-replies : RemoveReplies
 unfolding removeOutcome removePlan
-remove-replies s k room = record {
-  refuses = first-refuses (s .list) (removePlan (k .list)) room;
-  accepts = λ t j.
-      let m : List Record = records t in
-      let rs : List Record = remove (k .list) m in
-      let whole = planned (s .list) (removePlan (k .list)) room in
-      let reply = settledReply rs room in
-      let proper = accepted-proper s t j in
-      check whole reply (settled-refuses rs room) UnlawfulKey (lawful (k .list)) ((KeyAbsent, isThere (find (k .list) m)) ∷ sizes rs room)
-      (λ h. h) (lawful-passes (lawful (k .list))) (first-accepts (s .list) (removePlan (k .list)) room t j)
-      (λ l e₁. check whole reply (settled-refuses rs room) KeyAbsent (isThere (find (k .list) m)) (sizes rs room)
-      (absent-fails (find (k .list) m)) (absent-passes (find (k .list) m)) e₁
-      (λ w e₂. writing-last rs room whole _ (proper-remove (k .list) m proper) (λ key. remove-finds (k .list) m key (proper .order)) e₂));
-}
+remove-replies s h k room =
+    let whole = planned (s .list) h (removePlan (k .list)) room in
+    lent-head (s .list) h (removePlan (k .list)) room _ (λ t j e₀.
+    let m : List Record = records t in
+    let rs : List Record = remove (k .list) m in
+    let reply = movedBy h rs room in
+    let proper = accepted-proper s t j in
+    check whole reply (moved-refuses h rs room) UnlawfulKey (lawful (k .list)) ((KeyAbsent, isThere (find (k .list) m)) ∷ sizes rs room)
+    (λ e. e) (lawful-passes (lawful (k .list))) e₀
+    (λ l e₁. check whole reply (moved-refuses h rs room) KeyAbsent (isThere (find (k .list) m)) (sizes rs room)
+    (absent-fails (find (k .list) m)) (absent-passes (find (k .list) m)) e₁
+    (λ w e₂. moved-last h rs room whole _ (proper-remove (k .list) m proper) (λ key. remove-finds (k .list) m key (proper .order)) e₂)))
+
+-- the second register, after the first and its head were accepted
+module _ (v : Verdict) (h : Head) (m : List Record) (room : ℕ) (whole : Reply)
+    (e : whole ≡ movedBy h (mergePlan v m .result) room (due (mergePlan v m .asks ++ sizes (mergePlan v m .result) room))) where
+  second-refuses : (r : Refusal) → v ≡ refused r → Refuses whole (numberOf r)
+  unfolding mergePlan due settleMoved movedAnswer movedOutput movedHead
+  second-refuses r k = subst (λ (q : Reply). Refuses q (numberOf r)) (sym (e ∙ rw k)) (moved-refuses h m room r)
+
+  second-accepts : (w : SpeltTree) → v ≡ accepted w → whole ≡ movedBy h (merge m (records w)) room (due (sizes (merge m (records w)) room))
+  unfolding mergePlan
+  second-accepts w k = e ∙ rw k
 
 pub merge-replies : MergeReplies
 unfolding mergeOutcome
-merge-replies s u room =
+merge-replies s h u room =
     let plan = mergePlan (judge (u .list)) in
-    record {
-      refuses = first-refuses (s .list) plan room;
-      accepts = λ t j. record {
-        refuses = λ r k. second-refuses (s .list) (judge (u .list)) room t j r k;
-        accepts = λ w k.
-            let q = accepted-proper u w k in
-            writing-last (merge (records t) (records w)) room (planned (s .list) plan room) _
-            (proper-merge (records w) (records t) (q .keys) (q .values) (accepted-proper s t j))
-            (λ key. find-merge key (records w) (records t) (q .order))
-            (second-accepts (s .list) (judge (u .list)) room t j w k);
-      };
-    }
+    let whole = planned (s .list) h plan room in
+    lent-head (s .list) h plan room _ (λ t j e. record {
+      refuses = second-refuses (judge (u .list)) h (records t) room whole e;
+      accepts = λ w k.
+          let q = accepted-proper u w k in
+          moved-last h (merge (records t) (records w)) room whole _
+          (proper-merge (records w) (records t) (q .keys) (q .values) (accepted-proper s t j))
+          (λ key. find-merge key (records w) (records t) (q .order))
+          (second-accepts (judge (u .list)) h (records t) room whole e w k);
+    })
 
 -- ---- a call that counts
 module _ (rs : List Record) (count room : ℕ) where
@@ -246,7 +270,7 @@ module _ (rs : List Record) (count room : ℕ) where
 
   pub counted-refuses : (r : Refusal) → Refuses (countedBy (some r)) (numberOf r)
   unfolding settleCounted countedAnswer countedOutput
-  counted-refuses r = record { answer = refl; outputs = (refl, tt) }
+  counted-refuses r = record { answer = refl; outputs = (refl, tt); head = tt }
 
   pub counted-writes : (countedBy none .answer ≡ doneWith (length (tableOf rs) ∷ count ∷ [])) × (countedBy none .outputs ≡ filled room (tableOf rs) ∷ [])
   unfolding settleCounted countedAnswer countedOutput
@@ -255,7 +279,7 @@ module _ (rs : List Record) (count room : ℕ) where
   counted-last : (whole : Reply) (finds : List ℕ → Option (List ℕ)) → Proper rs → ((key : List ℕ) → find key rs ≡ finds key)
       → whole ≡ countedBy (due (sizes rs room)) → ResultFinds whole room (count ∷ []) finds
   counted-last whole finds p f e =
-      last whole countedBy counted-refuses rs room (count ∷ []) finds p f (counted-writes .0) (counted-writes .1) e
+      last whole countedBy counted-refuses rs room (count ∷ []) finds p f (counted-writes .0) (counted-writes .1) tt e
 
 -- ---- the difference
 module _ (s u : ByteString) (room : ℕ) where
@@ -264,12 +288,12 @@ module _ (s u : ByteString) (room : ℕ) where
 
   first-refused : (r : Refusal) → judge (s .list) ≡ refused r → Refuses reply (numberOf r)
   unfolding differenceOutcome differenceVerdicts countedAnswer countedOutput
-  first-refused r j = record { answer = rw j; outputs = (rw j, tt) }
+  first-refused r j = record { answer = rw j; outputs = (rw j, tt); head = tt }
 
   module _ (t : SpeltTree) (j : judge (s .list) ≡ accepted t) where
     second-refused : (r : Refusal) → judge (u .list) ≡ refused r → Refuses reply (numberOf r)
     unfolding differenceOutcome differenceVerdicts countedAnswer countedOutput
-    second-refused r k = record { answer = rw (j, k); outputs = (rw (j, k), tt) }
+    second-refused r k = record { answer = rw (j, k); outputs = (rw (j, k), tt); head = tt }
 
     module _ (w : SpeltTree) (k : judge (u .list) ≡ accepted w) where
       both-accepted : reply ≡ countedBy (differenceRecords t w) (length (openedPages (pagesOf t) w)) room (due (sizes (differenceRecords t w) room))
@@ -305,13 +329,13 @@ difference-is-exact s u t w j k unshared room =
 pub slash-replies : SlashReplies
 slash-replies k =
     record {
-      refuses = λ e. record { answer = ap said (slash-none (k .list) e); outputs = tt };
+      refuses = λ e. record { answer = ap said (slash-none (k .list) e); outputs = tt; head = tt };
       passes = λ f. let w = slash-stands (k .list) (lawful-passes (lawful (k .list)) f) in (w .0, ap said (w .1), w .2);
     }
 
 pub check-replies : CheckReplies
-unfolding checkAnswer checkVerdict
-check-replies s = record { refuses = λ r j. record { answer = rw j; outputs = tt }; accepts = λ t j. rw j }
+unfolding checkOutcome checkVerdict
+check-replies s = record { refuses = λ r j. record { answer = rw j; outputs = tt; head = rw j }; accepts = λ t j. (rw j, rw j) }
 
 -- the place of a value that is found
 place-found : (s k : List ℕ) (rs : List Record) (ps : List ℕ) → Stand s ps rs → (v : List ℕ) → find k rs ≡ some v
@@ -334,13 +358,13 @@ place-absent k (x ∷ rs) (p ∷ ps) =
 pub lookup-replies : LookupReplies
 unfolding lookupAnswer lookupVerdict answerPlace
 lookup-replies s k = record {
-  refuses = λ r j. record { answer = rw j; outputs = tt };
+  refuses = λ r j. record { answer = rw j; outputs = tt; head = tt };
   accepts = λ t j. record {
-    refuses = λ h. record { answer = rw (j, h); outputs = tt };
+    refuses = λ h. record { answer = rw (j, h); outputs = tt; head = tt };
     passes = λ h.
         let l = lawful-passes (lawful (k .list)) h in
         record {
-          refuses = λ e. record { answer = rw (j, l, place-absent (k .list) (records t) (places 0 t) e); outputs = tt };
+          refuses = λ e. record { answer = rw (j, l, place-absent (k .list) (records t) (places 0 t) e); outputs = tt; head = tt };
           passes = λ _ v e.
               let p = place-found (s .list) (k .list) (records t) (places 0 t) (places-stand (s .list) (s .small) t j) v e in
               (p .0, rw (j, l, p .1), p .2);
@@ -353,7 +377,7 @@ module _ (o : Listed) (room : ℕ) where
   -- both outputs are zero where there is none
   pub record-refuses : (r : Refusal) → o ≡ unlisted r → Refuses (recordReply o room) (numberOf r)
   unfolding listAnswer listKey listValue
-  record-refuses r e = record { answer = rw e; outputs = (rw e, (rw e, tt)) }
+  record-refuses r e = record { answer = rw e; outputs = (rw e, (rw e, tt)); head = tt }
 
   record-past : o ≡ pastTheEnd → (recordReply o room .answer ≡ doneWith (0 ∷ [])) × AllZero (recordReply o room .outputs)
   unfolding listAnswer listKey listValue

@@ -11,7 +11,7 @@ use borrow.Author.Tests.{le-leb}
 use Rattle.limits.specs.Limits.{longest, most}
 use Rattle.bytestring.proofs.Tools.{All, all-split, and-both}
 use Rattle.bytestring.specs.Bytes.{Bytes, ByteString}
-use Rattle.answer.specs.Answer.{Said, said}
+use Rattle.answer.specs.Answer.{Said, refusedWith, said}
 use Rattle.answer.specs.Inner.{FirstFits}
 use Rattle.answer.specs.declared.Refusal.{Refusal}
 use Rattle.answer.specs.declared.Refusal.the-variants.{UnlawfulKey, ValueLength}
@@ -25,20 +25,24 @@ use Rattle.tree.specs.Tree.{topLayer, part, entriesOf, pageOf, build, treeOf}
 use Rattle.tree.specs.Record.{Record, records, spelt}
 use Rattle.tree.specs.Table.{SpeltTree, linkOf, rawEntries, rawPage, bytesOfPage, table, treeOfSet, tableOf}
 use Rattle.tree.specs.Judge.{due, fits, Verdict, refused, accepted, judge}
-use Rattle.tree.proofs.Laws.{due-none, none-due, LawfulKey, RightValue, fitting, fitting-fits, records-of-set, table-accepted, accepted-table, table-bytes, table-grows}
+use Rattle.tree.proofs.Laws.{due-none, none-due, LawfulKey, RightValue, fitting, fitting-fits, accepted-table, table-bytes, table-grows}
+use Rattle.head.specs.declared.Head.{Head}
+use Rattle.head.specs.Head.{headOf}
 use Rattle.promises.specs.Map.{put, merge}
 use Rattle.promises.specs.Pages.{pagesOf, openedPages}
-use Rattle.promises.specs.Outcome.{Outcome, stopped, wrote, Plan, sizes, settle, carryOut, putPlan, mergePlan, onFirst, putOutcome, joinOutcome, removeOutcome, mergeOutcome, answerOf, outputOf}
+use Rattle.promises.specs.Outcome.{sizes, checkVerdict, checkOutcome}
+use Rattle.promises.specs.Moved.{Moved, stopped, moved, settleMoved, Plan, putPlan, joinPlan, removePlan, mergePlan, carryOut, onFirst, putOutcome, joinOutcome, removeOutcome, mergeOutcome, movedAnswer, movedOutput, movedHead}
 use Rattle.promises.specs.Counted.{settleCounted, countedAnswer}
 use Rattle.promises.specs.Difference.{differenceRecords, differenceVerdicts, differenceOutcome}
-use Rattle.promises.specs.Plain.{Call, putCall, removeCall, joinCall, mergeCall, planOf, roomOf, mapOutcome, nextSet, mapAnswers, mapSet, callOutcome, callAnswer, callOutput, nextHeld, libraryAnswers, held, emptyRegister, putsOf}
+use Rattle.promises.specs.Plain.{Request, putOf, removeOf, joinOf, mergeOf, Call, planOf, roomOf, mapOutcome, nextSet, setAfter, mapAnswers, mapSet, outcomeOf, callAnswer, callOutput, callHead, nextHeld, heldAfter, libraryAnswers, held, carrying, emptyRegister, putsOf}
 use Rattle.promises.specs.Register.{RegisterOf}
-use Rattle.promises.specs.Promises.{ValuesAreBytes, ReadsWhatItWrites, ReadsNothingElse, AnswersAsTheMap, HoldsItsRegister, AllDone, PutsReachEverySet, OneRegister, SameSetSameBytes, MergeCommutes, MergeAssociates, MergeIdempotent, DifferenceComesApart}
+use Rattle.promises.specs.Promises.{ValuesAreBytes, ReadsWhatItWrites, ReadsNothingElse, AnswersAsTheMap, HoldsItsRegister, TrueAlong, HeadGoesAlong, AllDone, PutsReachEverySet, OneRegister, SameSetSameBytes, MergeCommutes, MergeAssociates, MergeIdempotent, DifferenceComesApart}
 use Rattle.promises.proofs.MapLaws.{Before, Sorted, sorted-rising, insert-nil, insert-later, fits-proper, fits-sorted}
 use Rattle.promises.proofs.MergeLaws.{merge-commutes as sets-commute, merge-associates as sets-associate, merge-idempotent as set-idempotent}
 use Rattle.promises.proofs.Parts.{proper-part}
 use Rattle.promises.proofs.Steps.{sized, carried, put-fits, join-fits, remove-fits, merged-fits, merge-fits, first-accepted, second-accepted}
 use Rattle.promises.proofs.Orders.{register-of}
+use Rattle.promises.proofs.TrueHeads.{true-passes, never-untrue}
 
 -- ---- demand 2
 pub reads-what-it-writes : ReadsWhatItWrites
@@ -71,82 +75,88 @@ one-register rs f v = record {
 
 -- ---- demand 3
 -- with the register of a set, a plan is carried out with that set
-on-register : (s : List ℕ) (rs : List Record) → RegisterOf s rs → (plan : List Record → Plan) (room : ℕ)
-    → onFirst (judge s) plan room ≡ carryOut (plan rs) room
+on-register : (s : List ℕ) (rs : List Record) → RegisterOf s rs → (h : Head) (plan : List Record → Plan) (room : ℕ)
+    → onFirst (judge s) h plan room ≡ carryOut h plan rs room
 unfolding onFirst
-on-register s rs r plan room = rw (r .judged, r .spells)
+on-register s rs r h plan room = rw (r .judged, r .spells)
 
-same-outcome : (c : Call) (s : List ℕ) (m : List Record) → RegisterOf s m → callOutcome c s ≡ mapOutcome c m
-unfolding callOutcome mapOutcome planOf roomOf putOutcome joinOutcome removeOutcome mergeOutcome
-same-outcome (putCall k v room) s m r = on-register s m r _ room
-same-outcome (removeCall k room) s m r = on-register s m r _ room
-same-outcome (joinCall k v room) s m r = on-register s m r _ room
-same-outcome (mergeCall u room) s m r = on-register s m r _ room
+same-request : (q : Request) (h : Head) (s : List ℕ) (m : List Record) → RegisterOf s m → outcomeOf q s h ≡ carryOut h (planOf q) m (roomOf q)
+unfolding outcomeOf planOf roomOf putOutcome joinOutcome removeOutcome mergeOutcome
+same-request (putOf k v room) h s m r = on-register s m r h (putPlan k v) room
+same-request (removeOf k room) h s m r = on-register s m r h (removePlan k) room
+same-request (joinOf k v room) h s m r = on-register s m r h (joinPlan k v) room
+same-request (mergeOf u room) h s m r = on-register s m r h (mergePlan (judge (u .list))) room
 
-plan-fits : (c : Call) (m : List Record) → fits m ≡ true → (t : List ℕ) → mapOutcome c m ≡ wrote t → fits (planOf c m .result) ≡ true
-unfolding mapOutcome planOf roomOf
-plan-fits (putCall k v room) m f t h = put-fits m f room t k v h
-plan-fits (removeCall k room) m f t h = remove-fits m f room t k h
-plan-fits (joinCall k v room) m f t h = join-fits m f room t k v h
-plan-fits (mergeCall u room) m f t h =
-    merge-fits m f room t (judge (u .list)) (λ v e. accepted-is-table u v e .1) h
+same-outcome : (c : Call) (s : List ℕ) (m : List Record) → RegisterOf s m → outcomeOf (c .request) s (c .head) ≡ mapOutcome c m
+unfolding mapOutcome
+same-outcome c s m r = same-request (c .request) (c .head) s m r
 
--- the map's set after a call; the register held is its table, and it fits
-abbrev next : Call → List Record → List Record
-next c m = nextSet (mapOutcome c m) m (planOf c m .result)
+plan-fits : (q : Request) (h : Head) (m : List Record) → fits m ≡ true → (t : List ℕ) (g : Head)
+    → carryOut h (planOf q) m (roomOf q) ≡ moved t g → fits (planOf q m .result) ≡ true
+unfolding planOf roomOf
+plan-fits (putOf k v room) h m f t g e = put-fits h m f room t g k v e
+plan-fits (removeOf k room) h m f t g e = remove-fits h m f room t g k e
+plan-fits (joinOf k v room) h m f t g e = join-fits h m f room t g k v e
+plan-fits (mergeOf u room) h m f t g e = merge-fits h m f room t g (judge (u .list)) (λ v j. accepted-is-table u v j .1) e
 
--- what is read off the answer and the output is what the outcome wrote, or the register lent
-heldBy : Outcome → List ℕ → List ℕ
+-- what is read off the answer and the output is the table that was written, or the register lent
+heldBy : Moved → List ℕ → List ℕ
 heldBy (stopped r) s = s
-heldBy (wrote t) s = t
+heldBy (moved t h) s = t
 
-read-off : (o : Outcome) (room : ℕ) (s : List ℕ) → nextHeld (answerOf o) (outputOf o room) s ≡ heldBy o s
-unfolding nextHeld answerOf outputOf heldBy
+read-off : (o : Moved) (room : ℕ) (s : List ℕ) → nextHeld (movedAnswer o) (movedOutput o room) s ≡ heldBy o s
+unfolding nextHeld movedAnswer movedOutput heldBy
 read-off (stopped r) room s = refl
-read-off (wrote t) room s = take-append-seam t _
+read-off (moved t h) room s = take-append-seam t _
 
-next-held : (c : Call) (s : List ℕ) → nextHeld (callAnswer c s) (callOutput c s) s ≡ heldBy (callOutcome c s) s
+next-held : (c : Call) (s : List ℕ) → heldAfter c s ≡ heldBy (outcomeOf (c .request) s (c .head)) s
 unfolding callAnswer callOutput
-next-held c s = read-off (callOutcome c s) (roomOf c) s
+next-held c s = read-off (outcomeOf (c .request) s (c .head)) (roomOf (c .request)) s
 
--- after a call that wrote a table
-module _ (c : Call) (s t : List ℕ) (h : callOutcome c s ≡ wrote t) where
-  wrote-answers : callAnswer c s ≡ Done (length t)
-  unfolding callAnswer answerOf
-  wrote-answers = rw h
+-- after a call the register held is the table of the map's set, which fits; and the head is that set's where the call was not refused
+record Stepped (c : Call) (m : List Record) (o : Moved) : Type 0 where
+  pub table : heldBy o (tableOf m) ≡ tableOf (nextSet o m (planOf (c .request) m .result))
+  pub fit : fits (nextSet o m (planOf (c .request) m .result)) ≡ true
+  pub head : c .head ≡ headOf m → movedHead o (c .head) ≡ headOf (nextSet o m (planOf (c .request) m .result))
 
-  wrote-held : nextHeld (callAnswer c s) (callOutput c s) s ≡ t
-  unfolding heldBy
-  wrote-held = next-held c s ∙ rw h
+step-by : (c : Call) (m : List Record) → fits m ≡ true → (o : Moved) → mapOutcome c m ≡ o → Stepped c m o
+unfolding heldBy nextSet mapOutcome movedHead
+step-by c m f (stopped r) e = record { table = refl; fit = f; head = λ h. h }
+step-by c m f (moved t g) e =
+    let w = carried (c .head) (planOf (c .request)) m (roomOf (c .request)) t g e in
+    record { table = w .written; fit = plan-fits (c .request) (c .head) m f t g e; head = λ _. w .head }
 
-step-by : (c : Call) (m : List Record) → fits m ≡ true → (o : Outcome) → mapOutcome c m ≡ o
-    → (heldBy o (tableOf m) ≡ tableOf (nextSet o m (planOf c m .result))) × (fits (nextSet o m (planOf c m .result)) ≡ true)
-unfolding heldBy nextSet mapOutcome
-step-by c m f (stopped r) h = (refl, f)
-step-by c m f (wrote t) h = (carried (planOf c m) (roomOf c) t h .written, plan-fits c m f t h)
+module _ (c : Call) (m : List Record) (f : fits m ≡ true) where
+  same : outcomeOf (c .request) (tableOf m) (c .head) ≡ mapOutcome c m
+  same = same-outcome c (tableOf m) m (register-of m f)
 
-step : (c : Call) (m : List Record) → fits m ≡ true
-    → (nextHeld (callAnswer c (tableOf m)) (callOutput c (tableOf m)) (tableOf m) ≡ tableOf (next c m)) × (fits (next c m) ≡ true)
-step c m f = rw (next-held c (tableOf m), same-outcome c (tableOf m) m (register-of m f)) (step-by c m f (mapOutcome c m) refl)
+  stepped : Stepped c m (mapOutcome c m)
+  stepped = step-by c m f (mapOutcome c m) refl
 
-same-answer : (c : Call) (m : List Record) → fits m ≡ true → said (callAnswer c (tableOf m)) ≡ said (answerOf (mapOutcome c m))
-unfolding callAnswer
-same-answer c m f = rw (same-outcome c (tableOf m) m (register-of m f))
+  step : heldAfter c (tableOf m) ≡ tableOf (setAfter c m)
+  step = next-held c (tableOf m) ∙ rw same (stepped .table)
+
+  same-answer : said (callAnswer c (tableOf m)) ≡ said (movedAnswer (mapOutcome c m))
+  unfolding callAnswer
+  same-answer = rw same
+
+  head-after : callHead c (tableOf m) ≡ movedHead (mapOutcome c m) (c .head)
+  unfolding callHead
+  head-after = rw same
 
 same-answers : (calls : List Call) (m : List Record) → fits m ≡ true → libraryAnswers calls (tableOf m) ≡ mapAnswers calls m
 unfolding libraryAnswers mapAnswers
 same-answers [] m f = refl
 same-answers (c ∷ calls) m f =
-    let s = step c m f in
-    ap₂ (λ (a : Said) (l : List Said). a ∷ l) (same-answer c m f) (rw (s .0) (same-answers calls (next c m) (s .1)))
+    ap₂ (λ (a : Said × Head) (l : List (Said × Head)). a ∷ l)
+    (ap₂ (λ (a : Said) (h : Head). (a, h)) (same-answer c m f) (head-after c m f))
+    (rw (step c m f) (same-answers calls (setAfter c m) (stepped c m f .fit)))
 
 held-table : (calls : List Call) (m : List Record) → fits m ≡ true
     → (held calls (tableOf m) ≡ tableOf (mapSet calls m)) × (fits (mapSet calls m) ≡ true)
 unfolding held mapSet
 held-table [] m f = (refl, f)
-held-table (c ∷ calls) m f =
-    let s = step c m f in
-    rw (s .0) (held-table calls (next c m) (s .1))
+held-table (c ∷ calls) m f = rw (step c m f) (held-table calls (setAfter c m) (stepped c m f .fit))
 
 pub answers-as-the-map : AnswersAsTheMap
 answers-as-the-map start rs r calls =
@@ -162,6 +172,36 @@ holds-its-register start rs r calls =
 pub same-set-same-bytes : SameSetSameBytes
 same-set-same-bytes s u rs qs r q calls others e =
     answers-as-the-map s rs r calls .1 ∙ ap tableOf e ∙ sym (answers-as-the-map u qs q others .1)
+
+-- ---- a head that goes along
+module _ (q : Request) (m : List Record) (f : fits m ≡ true) where
+  abbrev lent : Call
+  lent = record { head = headOf m; request = q }
+
+  never : said (callAnswer lent (tableOf m)) ≡ refusedWith 17 → ⊥
+  unfolding mapOutcome
+  never e = never-untrue q m (sym (same-answer lent m f) ∙ e)
+
+  next-head : callHead lent (tableOf m) ≡ headOf (setAfter lent m)
+  next-head = head-after lent m f ∙ stepped lent m f .head refl
+
+true-along : (requests : List Request) (m : List Record) → fits m ≡ true → TrueAlong requests (headOf m) (tableOf m)
+true-along [] m f = record { set = m; register = register-of m f; same = refl }
+true-along (q ∷ requests) m f =
+    let c : Call = record { head = headOf m; request = q } in (
+      record { set = m; register = register-of m f; same = refl },
+      never q m f,
+      rw (next-head q m f, step c m f) (true-along requests (setAfter c m) (stepped c m f .fit)),
+    )
+
+check-head : (s : List ℕ) (rs : List Record) → RegisterOf s rs → checkOutcome s .head ≡ headOf rs
+unfolding checkOutcome checkVerdict
+check-head s rs r = rw (r .judged, r .spells)
+
+pub head-goes-along : HeadGoesAlong
+head-goes-along start rs r requests =
+    let a = reads-nothing-else start rs r in
+    rw (check-head (start .list) rs r, a .1) (true-along requests rs (a .0))
 
 -- ---- puts into the empty register
 -- the front of a set that fits fits
@@ -187,10 +227,13 @@ put-last r (x ∷ m) s =
     let above = all-split (λ y. Before (x .key) (y .key)) m (r ∷ []) (s .0) in
     insert-later (λ old new. new) r x m (above .1 .0) ∙ ap (λ (l : List Record). x ∷ l) (put-last r m (s .1))
 
--- a put with so long an output is done where the set that results fits
+-- a put with so long an output and a true head is done where the set that results fits
+abbrev putLongest : Record → Request
+putLongest r = putOf (r .key) (r .val) longest
+
 put-done : (r : Record) (m : List Record) → fits m ≡ true → fits (m ++ (r ∷ [])) ≡ true
-    → callOutcome (putCall (r .key) (r .val) longest) (tableOf m) ≡ wrote (tableOf (m ++ (r ∷ [])))
-unfolding mapOutcome planOf roomOf putPlan carryOut settle sizes
+    → outcomeOf (putLongest r) (tableOf m) (headOf m) ≡ moved (tableOf (m ++ (r ∷ []))) (headOf (m ++ (r ∷ [])))
+unfolding planOf roomOf putPlan settleMoved sizes
 put-done r m f g =
     let rs : List Record = m ++ (r ∷ []) in
     let e = put-last r m (fits-sorted rs g) in
@@ -200,22 +243,39 @@ put-done r m f g =
     let size = le-leb (length (tableOf rs)) longest (q .size) in
     let holds = none-due ((UnlawfulKey, lawful (r .key)) ∷ (ValueLength, isValue (r .val)) ∷ sizes rs longest)
     (key, (val, (le-leb (length rs) most (q .count), (and-both size size, tt)))) in
-    same-outcome (putCall (r .key) (r .val) longest) (tableOf m) m (register-of m f) ∙ rw (e, holds)
+    same-request (putLongest r) (headOf m) (tableOf m) m (register-of m f) ∙ true-passes (putPlan (r .key) (r .val)) m longest ∙ rw (e, holds)
+
+-- after a call that wrote a table
+module _ (c : Call) (s t : List ℕ) (g : Head) (e : outcomeOf (c .request) s (c .head) ≡ moved t g) where
+  moved-answers : callAnswer c s ≡ Done (length t)
+  unfolding callAnswer movedAnswer
+  moved-answers = rw e
+
+  moved-held : heldAfter c s ≡ t
+  unfolding heldBy
+  moved-held = next-held c s ∙ rw e
+
+  moved-on : callHead c s ≡ g
+  unfolding callHead movedHead
+  moved-on = rw e
 
 -- so puts in key order lengthen the front of the set by one record each
 puts-lengthen : (rs m : List Record) → fits (m ++ rs) ≡ true
-    → AllDone (libraryAnswers (putsOf rs) (tableOf m)) × (held (putsOf rs) (tableOf m) ≡ tableOf (m ++ rs))
-unfolding libraryAnswers held putsOf
+    → AllDone (libraryAnswers (carrying (putsOf rs) (headOf m) (tableOf m)) (tableOf m))
+    × (held (carrying (putsOf rs) (headOf m) (tableOf m)) (tableOf m) ≡ tableOf (m ++ rs))
+unfolding libraryAnswers held putsOf carrying
 puts-lengthen [] m f = (tt, ap tableOf (sym (append-nil m)))
 puts-lengthen (r ∷ rs) m f =
-    let whole : (m ++ (r ∷ [])) ++ rs ≡ m ++ (r ∷ rs) = append-assoc m (r ∷ []) rs in
-    let g : fits ((m ++ (r ∷ [])) ++ rs) ≡ true = rw whole f in
-    let done = put-done r m (front-fits m (r ∷ rs) f) (front-fits (m ++ (r ∷ [])) rs g) in
-    let later = puts-lengthen rs (m ++ (r ∷ [])) g in
-    let c = putCall (r .key) (r .val) longest in
-    let answered : callAnswer c (tableOf m) ≡ Done (length (tableOf (m ++ (r ∷ [])))) = wrote-answers c (tableOf m) _ done in
-    let holds : nextHeld (callAnswer c (tableOf m)) (callOutput c (tableOf m)) (tableOf m) ≡ tableOf (m ++ (r ∷ [])) = wrote-held c (tableOf m) _ done in
-    (rw (holds, answered) (later .0), ap (held (putsOf rs)) holds ∙ later .1 ∙ ap tableOf whole)
+    let more : List Record = m ++ (r ∷ []) in
+    let whole : more ++ rs ≡ m ++ (r ∷ rs) = append-assoc m (r ∷ []) rs in
+    let g : fits (more ++ rs) ≡ true = rw whole f in
+    let done = put-done r m (front-fits m (r ∷ rs) f) (front-fits more rs g) in
+    let later = puts-lengthen rs more g in
+    let c : Call = record { head = headOf m; request = putLongest r } in
+    let answered = moved-answers c (tableOf m) (tableOf more) (headOf more) done in
+    let holds = moved-held c (tableOf m) (tableOf more) (headOf more) done in
+    let goesOn = moved-on c (tableOf m) (tableOf more) (headOf more) done in
+    (rw (holds, goesOn, answered) (later .0), ap₂ (λ (h : Head) (s : List ℕ). held (carrying (putsOf rs) h s) s) goesOn holds ∙ later .1 ∙ ap tableOf whole)
 
 empty-table : emptyRegister ≡ tableOf []
 unfolding tableOf treeOfSet treeOf topLayer build part pageOf entriesOf spelt table bytesOfPage rawPage rawEntries linkOf pageBytes numberBytes gapBytes
@@ -224,55 +284,79 @@ empty-table = refl
 pub puts-reach-every-set : PutsReachEverySet
 puts-reach-every-set rs f =
     let p = puts-lengthen rs [] f in
-    rw empty-table (p .0, p .1, rw (p .1) (register-of rs f))
+    let e = check-head (tableOf []) [] (register-of [] (front-fits [] rs f)) in
+    rw (empty-table, e) (p .0, p .1, rw (p .1) (register-of rs f))
 
 -- ---- merge
--- the registers that a merge which is not refused has read
-first-table : (a : ByteString) (u : List ℕ) (room : ℕ) (w : List ℕ) → mergeOutcome (a .list) u room ≡ wrote w → (m : List Record) × TableOf (a .list) m
+-- the registers that a merge which is not refused has read, and the head that it was lent
+first-table : (a : ByteString) (h : Head) (u : List ℕ) (room : ℕ) (w : List ℕ) (g : Head) → mergeOutcome (a .list) h u room ≡ moved w g
+    → (m : List Record) × TableOf (a .list) m × (h ≡ headOf m)
 unfolding mergeOutcome
-first-table a u room w h =
-    let f = first-accepted (judge (a .list)) (mergePlan (judge u)) room w h in
-    (records (f .0), accepted-is-table a (f .0) (f .1))
+first-table a h u room w g e =
+    let f = first-accepted (judge (a .list)) h (mergePlan (judge u)) room w g e in
+    (records (f .0), accepted-is-table a (f .0) (f .1), carried h (mergePlan (judge u)) (records (f .0)) room w g (f .2) .true)
 
-second-table : (s : List ℕ) (b : ByteString) (room : ℕ) (w : List ℕ) → mergeOutcome s (b .list) room ≡ wrote w → (m : List Record) × TableOf (b .list) m
+second-table : (s : List ℕ) (h : Head) (b : ByteString) (room : ℕ) (w : List ℕ) (g : Head) → mergeOutcome s h (b .list) room ≡ moved w g
+    → (m : List Record) × TableOf (b .list) m
 unfolding mergeOutcome
-second-table s b room w h =
-    let f = first-accepted (judge s) (mergePlan (judge (b .list))) room w h in
-    let g = second-accepted (judge (b .list)) (records (f .0)) room w (f .2) in
-    (records (g .0), accepted-is-table b (g .0) (g .1))
+second-table s h b room w g e =
+    let f = first-accepted (judge s) h (mergePlan (judge (b .list))) room w g e in
+    let k = second-accepted (judge (b .list)) h (records (f .0)) room w g (f .2) in
+    (records (k .0), accepted-is-table b (k .0) (k .1))
 
--- what it wrote is the table of the merged set
-merged-table : (s u : List ℕ) (m n : List Record) → TableOf s m → TableOf u n → (room : ℕ) (w : List ℕ)
-    → mergeOutcome s u room ≡ wrote w → TableOf w (merge m n)
-unfolding mergeOutcome mergePlan onFirst
-merged-table s u m n p q room w h =
-    let k = rw (p .0, q .0, table-accepted m (fitting m (p .1)), records-of-set m, table-accepted n (fitting n (q .1)), records-of-set n) at h in
-    let c = carried (record { asks = []; result = merge m n }) room w k in
-    (c .written, merged-fits m n (p .1) (q .1) room (c .measured))
+-- what it wrote is the table of the merged set, and the head is that set's
+record Merged (w : List ℕ) (g : Head) (m n : List Record) : Type 0 where
+  pub table : TableOf w (merge m n)
+  pub head : g ≡ headOf (merge m n)
+
+register-is : (s : List ℕ) (m : List Record) → TableOf s m → RegisterOf s m
+register-is s m p = rw (p .0) (register-of m (p .1))
+
+merged-by : (u : SpeltTree) (h : Head) (m n : List Record) → fits m ≡ true → fits n ≡ true → records u ≡ n → (room : ℕ) (w : List ℕ) (g : Head)
+    → carryOut h (mergePlan (accepted u)) m room ≡ moved w g → Merged w g m n
+unfolding mergePlan
+merged-by u h m n f k spells room w g e =
+    let c = carried h (mergePlan (accepted u)) m room w g e in
+    record {
+      table = (c .written ∙ rw spells, merged-fits m n f k room (rw spells at (c .measured)));
+      head = c .head ∙ rw spells;
+    }
+
+merged : (s u : List ℕ) (m n : List Record) → TableOf s m → TableOf u n → (h : Head) (room : ℕ) (w : List ℕ) (g : Head)
+    → mergeOutcome s h u room ≡ moved w g → Merged w g m n
+unfolding mergeOutcome
+merged s u m n p q h room w g e =
+    let r = register-is u n q in
+    let k = sym (on-register s m (register-is s m p) h (mergePlan (judge u)) room) ∙ e in
+    merged-by (r .tree) h m n (p .1) (q .1) (r .spells) room w g (rw (r .judged) at k)
 
 pub merge-commutes : MergeCommutes
-merge-commutes a b i j ab ba h k =
-    let (m, p) = first-table a (b .list) i ab h in
-    let (n, q) = second-table (a .list) b i ab h in
-    merged-table (a .list) (b .list) m n p q i ab h .0
-    ∙ ap tableOf (sets-commute m n (fits-sorted m (p .1)) (fits-sorted n (q .1)))
-    ∙ sym (merged-table (b .list) (a .list) n m q p j ba k .0)
+merge-commutes a b f g i j ab ba h k e₁ e₂ =
+    let (m, p, _) = first-table a f (b .list) i ab h e₁ in
+    let (n, q) = second-table (a .list) f b i ab h e₁ in
+    let x = merged (a .list) (b .list) m n p q f i ab h e₁ in
+    let y = merged (b .list) (a .list) n m q p g j ba k e₂ in
+    let sets = sets-commute m n (fits-sorted m (p .1)) (fits-sorted n (q .1)) in
+    (x .table .0 ∙ ap tableOf sets ∙ sym (y .table .0), x .head ∙ ap headOf sets ∙ sym (y .head))
 
 pub merge-associates : MergeAssociates
-merge-associates a b c i j k l ab bc abThenC aThenBc h₁ h₂ h₃ h₄ =
-    let (x, p) = first-table a (b .list) i ab h₁ in
-    let (y, q) = second-table (a .list) b i ab h₁ in
-    let (z, r) = second-table ab c j abThenC h₂ in
-    let xy = merged-table (a .list) (b .list) x y p q i ab h₁ in
-    let yz = merged-table (b .list) (c .list) y z q r k bc h₃ in
-    merged-table ab (c .list) (merge x y) z xy r j abThenC h₂ .0
-    ∙ ap tableOf (sets-associate x y z (fits-sorted x (p .1)) (fits-sorted y (q .1)) (fits-sorted z (r .1)))
-    ∙ sym (merged-table (a .list) bc x (merge y z) p yz l aThenBc h₄ .0)
+merge-associates a b c f g i j k l ab bc abThenC aThenBc h h′ h″ h‴ e₁ e₂ e₃ e₄ =
+    let (x, p, _) = first-table a f (b .list) i ab h e₁ in
+    let (y, q) = second-table (a .list) f b i ab h e₁ in
+    let (z, r) = second-table ab h c j abThenC h′ e₂ in
+    let xy = merged (a .list) (b .list) x y p q f i ab h e₁ in
+    let yz = merged (b .list) (c .list) y z q r g k bc h″ e₃ in
+    let left = merged ab (c .list) (merge x y) z (xy .table) r h j abThenC h′ e₂ in
+    let right = merged (a .list) bc x (merge y z) p (yz .table) f l aThenBc h‴ e₄ in
+    let sets = sets-associate x y z (fits-sorted x (p .1)) (fits-sorted y (q .1)) (fits-sorted z (r .1)) in
+    (left .table .0 ∙ ap tableOf sets ∙ sym (right .table .0), left .head ∙ ap headOf sets ∙ sym (right .head))
 
 pub merge-idempotent : MergeIdempotent
-merge-idempotent a n aa h =
-    let (m, p) = first-table a (a .list) n aa h in
-    merged-table (a .list) (a .list) m m p p n aa h .0 ∙ ap tableOf (set-idempotent m (fits-sorted m (p .1))) ∙ sym (p .0)
+merge-idempotent a f n aa h e =
+    let (m, p, own) = first-table a f (a .list) n aa h e in
+    let w = merged (a .list) (a .list) m m p p f n aa h e in
+    let sets = set-idempotent m (fits-sorted m (p .1)) in
+    (w .table .0 ∙ ap tableOf sets ∙ sym (p .0), w .head ∙ ap headOf sets ∙ sym own)
 
 -- ---- two values as one number
 -- the length of a table that was written is below 2^24

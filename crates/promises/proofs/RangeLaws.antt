@@ -176,7 +176,7 @@ before-replies s k room =
 -- ---- the run
 run-refuses : (s first last : List ℕ) (room : ℕ) (r : Refusal) → judge s ≡ refused r → Refuses (runReply s first last room) (numberOf r)
 unfolding runOutcome runVerdict answerOf outputOf
-run-refuses s first last room r j = record { answer = rw j; outputs = (rw j, tt) }
+run-refuses s first last room r j = record { answer = rw j; outputs = (rw j, tt); head = tt }
 
 pub run-replies : RunReplies
 unfolding runOutcome runVerdict runTests
@@ -200,6 +200,6 @@ run-replies s f l room =
             inOrder = sorted-rising rs (proper-part (whose-part (isBetween first last) (records t)) p .order);
             found = λ key. find-whose (isBetween first last) key (records t) (p .order) ∙ between-cond (less key first) (less last key) (find key (records t));
             measured = measured whole reply (settled-refuses rs room) rs room [] (proper-part (whose-part (isBetween first last) (records t)) p)
-                (omega (arith, whose-few (isBetween first last) (records t))) (settled-writes rs room .0) (settled-writes rs room .1) e₃;
+                (omega (arith, whose-few (isBetween first last) (records t))) (settled-writes rs room .0) (settled-writes rs room .1) tt e₃;
           })));
     }

@@ -5,7 +5,7 @@ use mathlib.Core.Bool.{true, cond, false≢true}
 use mathlib.Core.Option.{Option, none, some}
 use mathlib.Core.List.{List, _++_}
 use native.Mathlib.Omega.{arith}
-use lib.ListN.{length, length-append, length-replicate}
+use lib.ListN.{length}
 use lib.Dec.{leb}
 use borrow.Author.Tests.{leb-true}
 use Rattle.limits.specs.Limits.{longest, most}
@@ -17,8 +17,12 @@ use Rattle.tree.specs.Record.{Record, records}
 use Rattle.tree.specs.Table.{SpeltTree, tableOf}
 use Rattle.tree.specs.Judge.{Test, due, fits, Verdict, refused, accepted}
 use Rattle.tree.proofs.Laws.{AllTests, due-none, fitting-fits}
+use Rattle.head.specs.declared.Head.{Head}
+use Rattle.head.specs.Head.{headOf, sameHead}
+use Rattle.head.proofs.Laws.{same-head}
 use Rattle.promises.specs.Map.{find, put, join, remove, merge, greaterFound}
-use Rattle.promises.specs.Outcome.{Outcome, stopped, wrote, Plan, sizes, settle, carryOut, putPlan, joinPlan, removePlan, mergePlan, onFirst, outputOf}
+use Rattle.promises.specs.Outcome.{sizes}
+use Rattle.promises.specs.Moved.{moved, Plan, settleMoved, callTests, carryOut, putPlan, joinPlan, removePlan, mergePlan, onFirst}
 use Rattle.promises.proofs.MapLaws.{Sorted, sorted-rising, find-put-same, find-put-other, find-join-same, find-join-other, find-remove-same, find-remove-other, Proper, fits-proper, proper-put, proper-join, proper-remove, proper-merge}
 
 -- ---- a call that is not refused: its tests hold, and it wrote the table of its result
@@ -37,27 +41,33 @@ sized m room h =
       size = leb-true (length (tableOf m)) longest (k .1);
     }
 
-pub record Carried (p : Plan) (room : ℕ) (t : List ℕ) : Type 0 where
+pub record Carried (h : Head) (m : List Record) (p : Plan) (room : ℕ) (t : List ℕ) (g : Head) : Type 0 where
+  pub true : h ≡ headOf m
   pub asked : AllTests (p .asks)
   pub measured : Sized (p .result) room
   pub written : t ≡ tableOf (p .result)
+  pub head : g ≡ headOf (p .result)
 
-settled : (o : Option Refusal) (m : List Record) (t : List ℕ) → settle o m ≡ wrote t → (o ≡ none) × (t ≡ tableOf m)
-unfolding settle
-settled none m t h = (refl, cc)
-settled (some r) m t h = let z : _≡_ {A = ℕ} 0 1 = cc in absurd (omega arith)
+settled : (o : Option Refusal) (m : List Record) (t : List ℕ) (g : Head) → settleMoved o m ≡ moved t g → (o ≡ none) × (t ≡ tableOf m) × (g ≡ headOf m)
+unfolding settleMoved
+settled none m t g h = (refl, cc, cc)
+settled (some r) m t g h = let z : _≡_ {A = ℕ} 0 1 = cc in absurd (omega arith)
 
-pub carried : (p : Plan) (room : ℕ) (t : List ℕ) → carryOut p room ≡ wrote t → Carried p room t
+pub carried : (h : Head) (plan : List Record → Plan) (m : List Record) (room : ℕ) (t : List ℕ) (g : Head) → carryOut h plan m room ≡ moved t g
+    → Carried h m (plan m) room t g
 unfolding carryOut
-carried p room t h =
-    let s = settled (due (p .asks ++ sizes (p .result) room)) (p .result) t h in
-    let k = all-split (λ (q : Test). q .1 ≡ true) (p .asks) (sizes (p .result) room) (due-none _ (s .0)) in
-    record { asked = k .0; measured = sized (p .result) room (k .1); written = s .1 }
-
-pub written-length : (p : Plan) (room : ℕ) (t : List ℕ) → carryOut p room ≡ wrote t → (length t ≤ room) × (length t ≤ longest)
-written-length p room t h =
-    let c = carried p room t h in
-    rw (c .written) (c .measured .output, c .measured .size)
+carried h plan m room t g e =
+    let p = plan m in
+    let s = settled (due (callTests h m p room)) (p .result) t g e in
+    let all : (sameHead h (headOf m) ≡ true) × AllTests (p .asks ++ sizes (p .result) room) = due-none (callTests h m p room) (s .0) in
+    let k = all-split (λ (q : Test). q .1 ≡ true) (p .asks) (sizes (p .result) room) (all .1) in
+    record {
+      true = same-head h (headOf m) (all .0);
+      asked = k .0;
+      measured = sized (p .result) room (k .1);
+      written = s .1;
+      head = s .2;
+    }
 
 -- ---- what each key finds in the set that results
 module _ (k : List ℕ) (m : List Record) (key : List ℕ) where
@@ -86,49 +96,43 @@ merged-fits m n f g room s =
     let q = fits-proper n g in
     sized-fits (merge m n) room (proper-merge n m (q .keys) (q .values) (fits-proper m f)) s
 
-module _ (m : List Record) (f : fits m ≡ true) (room : ℕ) (t : List ℕ) where
-  pub put-fits : (k v : List ℕ) → carryOut (putPlan k v m) room ≡ wrote t → fits (putPlan k v m .result) ≡ true
+module _ (h : Head) (m : List Record) (f : fits m ≡ true) (room : ℕ) (t : List ℕ) (g : Head) where
+  pub put-fits : (k v : List ℕ) → carryOut h (putPlan k v) m room ≡ moved t g → fits (putPlan k v m .result) ≡ true
   unfolding putPlan
-  put-fits k v h =
-      let c = carried (putPlan k v m) room t h in
+  put-fits k v e =
+      let c = carried h (putPlan k v) m room t g e in
       let r : Record = record { key = k; val = v } in
       sized-fits (put r m) room (proper-put r (c .asked .0) (c .asked .1 .0) m (fits-proper m f)) (c .measured)
 
-  pub join-fits : (k v : List ℕ) → carryOut (joinPlan k v m) room ≡ wrote t → fits (joinPlan k v m .result) ≡ true
+  pub join-fits : (k v : List ℕ) → carryOut h (joinPlan k v) m room ≡ moved t g → fits (joinPlan k v m .result) ≡ true
   unfolding joinPlan
-  join-fits k v h =
-      let c = carried (joinPlan k v m) room t h in
+  join-fits k v e =
+      let c = carried h (joinPlan k v) m room t g e in
       let r : Record = record { key = k; val = v } in
       sized-fits (join r m) room (proper-join r (c .asked .0) (c .asked .1 .0) m (fits-proper m f)) (c .measured)
 
-  pub remove-fits : (k : List ℕ) → carryOut (removePlan k m) room ≡ wrote t → fits (removePlan k m .result) ≡ true
+  pub remove-fits : (k : List ℕ) → carryOut h (removePlan k) m room ≡ moved t g → fits (removePlan k m .result) ≡ true
   unfolding removePlan
-  remove-fits k h =
-      let c = carried (removePlan k m) room t h in
+  remove-fits k e =
+      let c = carried h (removePlan k) m room t g e in
       sized-fits (remove k m) room (proper-remove k m (fits-proper m f)) (c .measured)
 
   pub merge-fits : (v : Verdict) → ((u : SpeltTree) → v ≡ accepted u → fits (records u) ≡ true)
-      → carryOut (mergePlan v m) room ≡ wrote t → fits (mergePlan v m .result) ≡ true
+      → carryOut h (mergePlan v) m room ≡ moved t g → fits (mergePlan v m .result) ≡ true
   unfolding mergePlan
-  merge-fits (refused r) g h = absurd (false≢true (carried (mergePlan (refused r) m) room t h .asked .0))
-  merge-fits (accepted u) g h =
-      merged-fits m (records u) f (g u refl) room (carried (mergePlan (accepted u) m) room t h .measured)
+  merge-fits (refused r) fit e = absurd (false≢true (carried h (mergePlan (refused r)) m room t g e .asked .0))
+  merge-fits (accepted u) fit e =
+      merged-fits m (records u) f (fit u refl) room (carried h (mergePlan (accepted u)) m room t g e .measured)
 
 -- ---- the registers that it has read were accepted
-pub first-accepted : (v : Verdict) (plan : List Record → Plan) (room : ℕ) (t : List ℕ) → onFirst v plan room ≡ wrote t
-    → (u : SpeltTree) × (v ≡ accepted u) × (carryOut (plan (records u)) room ≡ wrote t)
+pub first-accepted : (v : Verdict) (h : Head) (plan : List Record → Plan) (room : ℕ) (t : List ℕ) (g : Head) → onFirst v h plan room ≡ moved t g
+    → (u : SpeltTree) × (v ≡ accepted u) × (carryOut h plan (records u) room ≡ moved t g)
 unfolding onFirst
-first-accepted (refused r) plan room t h = let z : _≡_ {A = ℕ} 0 1 = cc in absurd (omega arith)
-first-accepted (accepted u) plan room t h = (u, refl, h)
+first-accepted (refused r) h plan room t g e = let z : _≡_ {A = ℕ} 0 1 = cc in absurd (omega arith)
+first-accepted (accepted u) h plan room t g e = (u, refl, e)
 
-pub second-accepted : (v : Verdict) (m : List Record) (room : ℕ) (t : List ℕ) → carryOut (mergePlan v m) room ≡ wrote t
+pub second-accepted : (v : Verdict) (h : Head) (m : List Record) (room : ℕ) (t : List ℕ) (g : Head) → carryOut h (mergePlan v) m room ≡ moved t g
     → (u : SpeltTree) × (v ≡ accepted u)
 unfolding mergePlan
-second-accepted (refused r) m room t h = absurd (false≢true (carried (mergePlan (refused r) m) room t h .asked .0))
-second-accepted (accepted u) m room t h = (u, refl)
-
--- ---- the output keeps its length
-pub output-length : (o : Outcome) (room : ℕ) → ((t : List ℕ) → o ≡ wrote t → length t ≤ room) → length (outputOf o room) ≡ room
-unfolding outputOf
-output-length (stopped r) room f = length-replicate room 0
-output-length (wrote t) room f = simp (length-append, length-replicate) (omega (arith, f t refl))
+second-accepted (refused r) h m room t g e = absurd (false≢true (carried h (mergePlan (refused r)) m room t g e .asked .0))
+second-accepted (accepted u) h m room t g e = (u, refl)

@@ -1,6 +1,7 @@
 pub mod Map
 pub mod Pages
 pub mod Outcome
+pub mod Moved
 pub mod Range
 pub mod Counted
 pub mod Difference

@@ -15,20 +15,28 @@ use Rattle.key.specs.Key.{lawful, SlashAfter, less}
 use Rattle.tree.specs.Record.{Record, records}
 use Rattle.tree.specs.Table.{SpeltTree, tableOf}
 use Rattle.tree.specs.Judge.{rising, refused, accepted, judge}
+use Rattle.head.specs.declared.Head.{Head}
+use Rattle.head.specs.Head.{headOf}
 use Rattle.promises.specs.Map.{find, greaterFound, onlyInSecond}
 use Rattle.promises.specs.Pages.{pagesOf, openedPages, inPages}
 use Rattle.promises.specs.Register.{RegisterOf}
-use Rattle.promises.specs.Reply.{Output, Reply}
+use Rattle.promises.specs.Reply.{Output, HeadAfter, Reply}
 
 -- ---- the steps
 abbrev pub AllZero : List Output → Type 0
 AllZero [] = Unit {0}
 AllZero (out ∷ outs) = (out .bytes ≡ zeros (out .room)) × AllZero outs
 
--- A refusal answers its number alone, and every output is wholly zero.
+-- What the head is after the call, where the call has one.
+abbrev pub HeadIs : Option HeadAfter → (HeadAfter → Head) → Type 0
+HeadIs none wanted = Unit {0}
+HeadIs (some h) wanted = h .after ≡ wanted h
+
+-- A refusal answers its number alone, every output is wholly zero, and a lent head is as it was lent.
 pub record Refuses (reply : Reply) (n : ℕ) : Type 0 where
   pub answer : reply .answer ≡ refusedWith n
   pub outputs : AllZero (reply .outputs)
+  pub head : HeadIs (reply .head) (λ h. h .onRefusal)
 
 -- A register is refused with the first of 1 to 10 that is due on it; otherwise the call goes on with the tree that its pages spell.
 pub record Judged (s : List ℕ) (reply : Reply) (goesOn : SpeltTree → Type 0) : Type 0 where
@@ -44,11 +52,12 @@ pub record Check (reply : Reply) (n : ℕ) (broken goesOn : Type 0) : Type 0 whe
 abbrev pub filled : ℕ → List ℕ → Output
 filled room bytes = record { room = room; bytes = bytes ++ zeros (room - length bytes) }
 
--- The register of a set is written, and its length is answered, with the other values of the call after it.
+-- The register of a set is written, and its length is answered, with the other values of the call after it. A head is that of the set.
 pub record Writes (reply : Reply) (room : ℕ) (others : List ℕ) (rs : List Record) : Type 0 where
   pub register : RegisterOf (tableOf rs) rs
   pub answer : reply .answer ≡ doneWith (length (tableOf rs) ∷ others)
   pub outputs : reply .outputs ≡ filled room (tableOf rs) ∷ []
+  pub head : HeadIs (reply .head) (λ _. headOf rs)
 
 -- The output: 13 where the table is longer than it, or than 4,194,304 bytes.
 abbrev pub Measured : Reply → ℕ → List ℕ → List Record → Type 0
@@ -69,9 +78,10 @@ SlashOrder k reply =
     Check reply 7 (lawful k ≡ false)
     ((n : ℕ) × (reply .answer ≡ doneWith (n ∷ [])) × SlashAfter k n)
 
--- Check answers the record count.
+-- Check answers 0, and its head is that of the register's set.
 abbrev pub CheckOrder : List ℕ → Reply → Type 0
-CheckOrder s reply = Judged s reply (λ t. reply .answer ≡ doneWith (length (records t) ∷ []))
+CheckOrder s reply =
+    Judged s reply (λ t. (reply .answer ≡ doneWith (0 ∷ [])) × HeadIs (reply .head) (λ _. headOf (records t)))
 
 -- Lookup: the key argument, then absence. It answers the place where the value begins.
 abbrev pub LookupOrder : List ℕ → List ℕ → Reply → Type 0
@@ -141,38 +151,43 @@ RunOrder s first last room reply =
     (Check reply 14 (less last first ≡ true)
     (RunFinds reply room first last (records t)))))
 
+-- A call that is lent a head: once the register is accepted, 17 where the head is not that of its set, in any field.
+abbrev pub LentHead : List ℕ → Head → Reply → (SpeltTree → Type 0) → Type 0
+LentHead s lent reply goesOn = Judged s reply (λ t. Check reply 17 (lent ≡ headOf (records t) → ⊥) (goesOn t))
+
 -- Put: the key argument, then the value. Afterwards the key finds the value, and every other key what it found before.
-abbrev pub PutOrder : List ℕ → List ℕ → List ℕ → ℕ → Reply → Type 0
-PutOrder s k v room reply =
-    Judged s reply (λ t.
+abbrev pub PutOrder : List ℕ → Head → List ℕ → List ℕ → ℕ → Reply → Type 0
+PutOrder s lent k v room reply =
+    LentHead s lent reply (λ t.
     Check reply 7 (lawful k ≡ false)
     (Check reply 11 (length v ≡ valueLength → ⊥)
     (ResultFinds reply room [] (λ key. cond (equal key k) (some v) (find key (records t))))))
 
 -- Join: the same, but the key finds the greater of what it found before and the value.
-abbrev pub JoinOrder : List ℕ → List ℕ → List ℕ → ℕ → Reply → Type 0
-JoinOrder s k v room reply =
-    Judged s reply (λ t.
+abbrev pub JoinOrder : List ℕ → Head → List ℕ → List ℕ → ℕ → Reply → Type 0
+JoinOrder s lent k v room reply =
+    LentHead s lent reply (λ t.
     Check reply 7 (lawful k ≡ false)
     (Check reply 11 (length v ≡ valueLength → ⊥)
     (ResultFinds reply room [] (λ key. cond (equal key k) (greaterFound (find key (records t)) (some v)) (find key (records t))))))
 
 -- Remove: the key argument, then absence. Afterwards the key finds nothing, and every other key what it found before.
-abbrev pub RemoveOrder : List ℕ → List ℕ → ℕ → Reply → Type 0
-RemoveOrder s k room reply =
-    Judged s reply (λ t.
+abbrev pub RemoveOrder : List ℕ → Head → List ℕ → ℕ → Reply → Type 0
+RemoveOrder s lent k room reply =
+    LentHead s lent reply (λ t.
     Check reply 7 (lawful k ≡ false)
     (Check reply 12 (find k (records t) ≡ none)
     (ResultFinds reply room [] (λ key. cond (equal key k) none (find key (records t))))))
 
--- Merge: the first register is judged through before the second. Afterwards each key finds the greater of what it found in the two.
-abbrev pub MergeOrder : List ℕ → List ℕ → ℕ → Reply → Type 0
-MergeOrder s u room reply =
-    Judged s reply (λ t.
+-- Merge: the first register and its head are judged through before the second register. Afterwards each key finds the greater of what it
+-- found in the two.
+abbrev pub MergeOrder : List ℕ → Head → List ℕ → ℕ → Reply → Type 0
+MergeOrder s lent u room reply =
+    LentHead s lent reply (λ t.
     Judged u reply (λ w.
     ResultFinds reply room [] (λ key. greaterFound (find key (records t)) (find key (records w)))))
 
--- Difference: the same two registers. In the result each key finds what it finds in the opened pages of the second and not in the first. The
+-- Difference: the first register is judged through before the second. In the result each key finds what it finds in the opened pages of the second and not in the first. The
 -- number of opened pages is answered after the length.
 abbrev pub DifferenceOrder : List ℕ → List ℕ → ℕ → Reply → Type 0
 DifferenceOrder s u room reply =

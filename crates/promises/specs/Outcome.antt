@@ -1,6 +1,6 @@
 -- What each call answers and writes, from its arguments and the length of its output.
 use Prim.Native.Nat.{ℕ, _-_}
-use mathlib.Core.Bool.{false, cond, _&&_}
+use mathlib.Core.Bool.{cond, _&&_}
 use mathlib.Core.Option.{Option, none, some}
 use mathlib.Core.List.{List, [], _∷_, _++_}
 use lib.ListN.{length}
@@ -8,25 +8,27 @@ use lib.Dec.{leb}
 use Rattle.limits.specs.Limits.{longest, most}
 use Rattle.bytestring.specs.Bytes.{zeros}
 use Rattle.answer.specs.declared.Refusal.{Refusal}
-use Rattle.answer.specs.declared.Refusal.the-variants.{TooManyRecords, UnlawfulKey, ValueLength, KeyAbsent, NoRoom}
+use Rattle.answer.specs.declared.Refusal.the-variants.{TooManyRecords, UnlawfulKey, KeyAbsent, NoRoom}
 use Rattle.answer.specs.declared.Answer.{Answer}
 use Rattle.answer.specs.declared.Answer.the-variants.{Done, Refused}
 use Rattle.key.specs.Key.{lawful, less}
-use Rattle.value.specs.Value.{valueLength, isValue}
+use Rattle.value.specs.Value.{valueLength}
 use Rattle.tree.specs.Record.{Record, records}
 use Rattle.tree.specs.Table.{tableOf}
-use Rattle.tree.specs.Judge.{Test, due, Verdict, refused, accepted, judge}
+use Rattle.tree.specs.Judge.{Test, Verdict, refused, accepted, judge}
 use Rattle.tree.specs.Place.{places}
-use Rattle.promises.specs.Map.{find, isThere, put, join, remove, merge, nth}
+use Rattle.head.specs.declared.Headed.{Headed}
+use Rattle.head.specs.Head.{headOf, zeroHead}
+use Rattle.promises.specs.Map.{nth}
 
 -- ---- check
--- The record count, or the first number that is due.
-unfoldable pub checkVerdict : Verdict → Answer
-checkVerdict (refused r) = Refused r
-checkVerdict (accepted t) = Done (length (records t))
+-- The answer is 0, with the head of the register's set beside it; where a number is due, that number and the head of zeros.
+unfoldable pub checkVerdict : Verdict → Headed
+checkVerdict (refused r) = record { answer = Refused r; head = zeroHead }
+checkVerdict (accepted t) = record { answer = Done 0; head = headOf (records t) }
 
-unfoldable pub checkAnswer : List ℕ → Answer
-checkAnswer s = checkVerdict (judge s)
+unfoldable pub checkOutcome : List ℕ → Headed
+checkOutcome s = checkVerdict (judge s)
 
 -- ---- lookup
 -- The place of the value under a key, given the places of all values.
@@ -83,16 +85,11 @@ listValue (unlisted r) = zeros valueLength
 listValue pastTheEnd = zeros valueLength
 listValue (listed r) = r .val
 
--- ---- put, remove, join, merge
--- A writing call is refused, or writes a table.
+-- ---- calls that write a table and nothing else
+-- Such a call is refused, or writes a table.
 pub data Outcome : Type 0 where
   stopped : Refusal → Outcome
   wrote : List ℕ → Outcome
-
--- What a call asks of the first register's set: its own tests in their order, and the set that results.
-pub record Plan : Type 0 where
-  pub asks : List Test
-  pub result : List Record
 
 -- The output is measured by the table that is to be written.
 abbrev pub roomTest : List Record → ℕ → Test
@@ -105,45 +102,6 @@ sizes rs room = (TooManyRecords, leb (length rs) most) ∷ roomTest rs room ∷ 
 unfoldable pub settle : Option Refusal → List Record → Outcome
 settle none rs = wrote (tableOf rs)
 settle (some r) rs = stopped r
-
-unfoldable pub carryOut : Plan → ℕ → Outcome
-carryOut p room = settle (due (p .asks ++ sizes (p .result) room)) (p .result)
-
--- The key argument, then the value.
-unfoldable pub putPlan : List ℕ → List ℕ → List Record → Plan
-putPlan k v m =
-    record { asks = (UnlawfulKey, lawful k) ∷ (ValueLength, isValue v) ∷ []; result = put (record { key = k; val = v }) m }
-
-unfoldable pub joinPlan : List ℕ → List ℕ → List Record → Plan
-joinPlan k v m =
-    record { asks = (UnlawfulKey, lawful k) ∷ (ValueLength, isValue v) ∷ []; result = join (record { key = k; val = v }) m }
-
--- The key argument, then absence.
-unfoldable pub removePlan : List ℕ → List Record → Plan
-removePlan k m =
-    record { asks = (UnlawfulKey, lawful k) ∷ (KeyAbsent, isThere (find k m)) ∷ []; result = remove k m }
-
--- The second register's verdict: a number that is due on it refuses the call.
-unfoldable pub mergePlan : Verdict → List Record → Plan
-mergePlan (refused r) m = record { asks = (r, false) ∷ []; result = m }
-mergePlan (accepted t) m = record { asks = []; result = merge m (records t) }
-
--- The first register is judged through before all else.
-unfoldable pub onFirst : Verdict → (List Record → Plan) → ℕ → Outcome
-onFirst (refused r) plan room = stopped r
-onFirst (accepted t) plan room = carryOut (plan (records t)) room
-
-unfoldable pub putOutcome : List ℕ → List ℕ → List ℕ → ℕ → Outcome
-putOutcome s k v room = onFirst (judge s) (putPlan k v) room
-
-unfoldable pub joinOutcome : List ℕ → List ℕ → List ℕ → ℕ → Outcome
-joinOutcome s k v room = onFirst (judge s) (joinPlan k v) room
-
-unfoldable pub removeOutcome : List ℕ → List ℕ → ℕ → Outcome
-removeOutcome s k room = onFirst (judge s) (removePlan k) room
-
-unfoldable pub mergeOutcome : List ℕ → List ℕ → ℕ → Outcome
-mergeOutcome s u room = onFirst (judge s) (mergePlan (judge u)) room
 
 -- A writing call answers its table's length; a refusal answers its number alone.
 unfoldable pub answerOf : Outcome → Answer

@@ -9,77 +9,102 @@ use Rattle.answer.specs.declared.Answer.{Answer}
 use Rattle.answer.specs.declared.Answer.the-variants.{Done, Refused}
 use Rattle.tree.specs.Record.{Record}
 use Rattle.tree.specs.Judge.{judge}
-use Rattle.promises.specs.Outcome.{Outcome, stopped, wrote, Plan, carryOut, putPlan, joinPlan, removePlan, mergePlan, putOutcome, joinOutcome, removeOutcome, mergeOutcome, answerOf, outputOf}
+use Rattle.head.specs.declared.Head.{Head}
+use Rattle.promises.specs.Moved.{Moved, stopped, moved, Plan, carryOut, putPlan, joinPlan, removePlan, mergePlan, putOutcome, joinOutcome, removeOutcome, mergeOutcome, movedAnswer, movedOutput, movedHead}
 
--- A call: its kind, its arguments (for merge, the second register's bytes) and its output's length.
-pub data Call : Type 0 where
-  putCall : List ℕ → List ℕ → ℕ → Call
-  removeCall : List ℕ → ℕ → Call
-  joinCall : List ℕ → List ℕ → ℕ → Call
-  mergeCall : ByteString → ℕ → Call
+-- What a call asks for: its kind, its arguments (for merge, the second register's bytes) and its output's length.
+pub data Request : Type 0 where
+  putOf : List ℕ → List ℕ → ℕ → Request
+  removeOf : List ℕ → ℕ → Request
+  joinOf : List ℕ → List ℕ → ℕ → Request
+  mergeOf : ByteString → ℕ → Request
+
+-- A call has one argument more, the head that it is lent, true or not.
+pub record Call : Type 0 where
+  pub head : Head
+  pub request : Request
 
 -- ---- the map
 -- What a call asks and what set it results in, with the map's set as the first register's.
-unfoldable pub planOf : Call → List Record → Plan
-planOf (putCall k v room) m = putPlan k v m
-planOf (removeCall k room) m = removePlan k m
-planOf (joinCall k v room) m = joinPlan k v m
-planOf (mergeCall s room) m = mergePlan (judge (s .list)) m
+unfoldable pub planOf : Request → List Record → Plan
+planOf (putOf k v room) m = putPlan k v m
+planOf (removeOf k room) m = removePlan k m
+planOf (joinOf k v room) m = joinPlan k v m
+planOf (mergeOf s room) m = mergePlan (judge (s .list)) m
 
-unfoldable pub roomOf : Call → ℕ
-roomOf (putCall k v room) = room
-roomOf (removeCall k room) = room
-roomOf (joinCall k v room) = room
-roomOf (mergeCall s room) = room
+unfoldable pub roomOf : Request → ℕ
+roomOf (putOf k v room) = room
+roomOf (removeOf k room) = room
+roomOf (joinOf k v room) = room
+roomOf (mergeOf s room) = room
 
--- If a number is due, the map answers the first one and keeps its set; otherwise it takes the new set and answers the length of its table.
-unfoldable pub mapOutcome : Call → List Record → Outcome
-mapOutcome c m = carryOut (planOf c m) (roomOf c)
+-- The map judges the head against its own set. If a number is due, it answers the first one, gives the head back and keeps its set; otherwise
+-- it takes the new set and answers the length of its table and its head.
+unfoldable pub mapOutcome : Call → List Record → Moved
+mapOutcome c m = carryOut (c .head) (planOf (c .request)) m (roomOf (c .request))
 
-unfoldable pub nextSet : Outcome → List Record → List Record → List Record
+unfoldable pub nextSet : Moved → List Record → List Record → List Record
 nextSet (stopped r) old new = old
-nextSet (wrote t) old new = new
+nextSet (moved t h) old new = new
 
-unfoldable pub mapAnswers : List Call → List Record → List Said
+abbrev pub setAfter : Call → List Record → List Record
+setAfter c m = nextSet (mapOutcome c m) m (planOf (c .request) m .result)
+
+-- Each call's answer, and the head after it.
+unfoldable pub mapAnswers : List Call → List Record → List (Said × Head)
 mapAnswers [] m = []
-mapAnswers (c ∷ cs) m = said (answerOf (mapOutcome c m)) ∷ mapAnswers cs (nextSet (mapOutcome c m) m (planOf c m .result))
+mapAnswers (c ∷ cs) m = (said (movedAnswer (mapOutcome c m)), movedHead (mapOutcome c m) (c .head)) ∷ mapAnswers cs (setAfter c m)
 
 unfoldable pub mapSet : List Call → List Record → List Record
 mapSet [] m = m
-mapSet (c ∷ cs) m = mapSet cs (nextSet (mapOutcome c m) m (planOf c m .result))
+mapSet (c ∷ cs) m = mapSet cs (setAfter c m)
 
 -- ---- the library
 -- Each call is lent the register held, merge as its first.
-unfoldable pub callOutcome : Call → List ℕ → Outcome
-callOutcome (putCall k v room) s = putOutcome s k v room
-callOutcome (removeCall k room) s = removeOutcome s k room
-callOutcome (joinCall k v room) s = joinOutcome s k v room
-callOutcome (mergeCall u room) s = mergeOutcome s (u .list) room
+unfoldable pub outcomeOf : Request → List ℕ → Head → Moved
+outcomeOf (putOf k v room) s h = putOutcome s h k v room
+outcomeOf (removeOf k room) s h = removeOutcome s h k room
+outcomeOf (joinOf k v room) s h = joinOutcome s h k v room
+outcomeOf (mergeOf u room) s h = mergeOutcome s h (u .list) room
 
 unfoldable pub callAnswer : Call → List ℕ → Answer
-callAnswer c s = answerOf (callOutcome c s)
+callAnswer c s = movedAnswer (outcomeOf (c .request) s (c .head))
 
 unfoldable pub callOutput : Call → List ℕ → List ℕ
-callOutput c s = outputOf (callOutcome c s) (roomOf c)
+callOutput c s = movedOutput (outcomeOf (c .request) s (c .head)) (roomOf (c .request))
+
+unfoldable pub callHead : Call → List ℕ → Head
+callHead c s = movedHead (outcomeOf (c .request) s (c .head)) (c .head)
 
 -- After a call that is not refused the table it wrote, as long as its answer says, is held; after a refused one the register lent stays held.
 unfoldable pub nextHeld : Answer → List ℕ → List ℕ → List ℕ
 nextHeld (Done n) output s = take n output
 nextHeld (Refused r) output s = s
 
-unfoldable pub libraryAnswers : List Call → List ℕ → List Said
+abbrev pub heldAfter : Call → List ℕ → List ℕ
+heldAfter c s = nextHeld (callAnswer c s) (callOutput c s) s
+
+unfoldable pub libraryAnswers : List Call → List ℕ → List (Said × Head)
 libraryAnswers [] s = []
-libraryAnswers (c ∷ cs) s = said (callAnswer c s) ∷ libraryAnswers cs (nextHeld (callAnswer c s) (callOutput c s) s)
+libraryAnswers (c ∷ cs) s = (said (callAnswer c s), callHead c s) ∷ libraryAnswers cs (heldAfter c s)
 
 unfoldable pub held : List Call → List ℕ → List ℕ
 held [] s = s
-held (c ∷ cs) s = held cs (nextHeld (callAnswer c s) (callOutput c s) s)
+held (c ∷ cs) s = held cs (heldAfter c s)
+
+-- ---- a head that goes along
+-- The first call is lent this head, and each one after it the head that the call before left.
+unfoldable pub carrying : List Request → Head → List ℕ → List Call
+carrying [] h s = []
+carrying (q ∷ qs) h s =
+    let c : Call = record { head = h; request = q } in
+    c ∷ carrying qs (callHead c s) (heldAfter c s)
 
 -- ---- puts into the empty register
 abbrev pub emptyRegister : List ℕ
 emptyRegister = 0xA2 ∷ 0x61 ∷ 0x65 ∷ 0x80 ∷ 0x61 ∷ 0x6C ∷ 0xF6 ∷ []
 
 -- The puts of these records, one after the other, each with an output of 4,194,304 bytes.
-unfoldable pub putsOf : List Record → List Call
+unfoldable pub putsOf : List Record → List Request
 putsOf [] = []
-putsOf (r ∷ rs) = putCall (r .key) (r .val) longest ∷ putsOf rs
+putsOf (r ∷ rs) = putOf (r .key) (r .val) longest ∷ putsOf rs

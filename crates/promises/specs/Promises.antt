@@ -6,21 +6,24 @@ use mathlib.Core.Logic.{_⊎_}
 use mathlib.Core.List.{List, [], _∷_, _++_}
 use lib.ListN.{length}
 use Rattle.bytestring.specs.Bytes.{Bytes, ByteString}
-use Rattle.answer.specs.Answer.{Said, refusedWith, doneWith, encodedOfTwo, saidOfTwo, takenApartInTwo}
+use Rattle.answer.specs.Answer.{Said, refusedWith, doneWith, said, encodedOfTwo, saidOfTwo, takenApartInTwo}
 use Rattle.fips180.specs.Hash.{sha256}
 use Rattle.tree.specs.Tree.{pages}
 use Rattle.tree.specs.Record.{Record, records}
 use Rattle.tree.specs.Table.{SpeltTree, bytesOfPage, tableOf}
 use Rattle.tree.specs.Judge.{accepted, judge, fits}
+use Rattle.head.specs.declared.Head.{Head}
+use Rattle.head.specs.Head.{headOf}
 use Rattle.promises.specs.Map.{find, onlyInSecond}
 use Rattle.promises.specs.Pages.{pagesOf, known, openedPages, linkedPages}
-use Rattle.promises.specs.Outcome.{wrote, mergeOutcome}
+use Rattle.promises.specs.Outcome.{checkOutcome}
+use Rattle.promises.specs.Moved.{moved, mergeOutcome}
 use Rattle.promises.specs.Counted.{countedAnswer}
 use Rattle.promises.specs.Difference.{differenceOutcome}
 use Rattle.promises.specs.Register.{RegisterOf}
 use Rattle.promises.specs.Reply.{slashReply, checkReply, lookupReply, listReply, atOrAfterReply, beforeReply, runReply, putReply, joinReply, removeReply, mergeReply, differenceReply}
 use Rattle.promises.specs.Order.{ResultFinds, SlashOrder, CheckOrder, LookupOrder, ListOrder, AtOrAfterOrder, BeforeOrder, RunOrder, PutOrder, JoinOrder, RemoveOrder, MergeOrder, DifferenceOrder}
-use Rattle.promises.specs.Plain.{Call, mapAnswers, mapSet, libraryAnswers, held, emptyRegister, putsOf}
+use Rattle.promises.specs.Plain.{Request, Call, mapAnswers, mapSet, callAnswer, callHead, heldAfter, libraryAnswers, held, carrying, emptyRegister, putsOf}
 
 -- Demand 2. The table of a set that fits is accepted as that set's register, and a register that is accepted is the table of a set that fits.
 abbrev pub ReadsWhatItWrites : Type 0
@@ -59,17 +62,21 @@ RunReplies =
 
 abbrev pub PutReplies : Type 0
 PutReplies =
-    (s k v : ByteString) (room : ℕ) → PutOrder (s .list) (k .list) (v .list) room (putReply (s .list) (k .list) (v .list) room)
+    (s : ByteString) (h : Head) (k v : ByteString) (room : ℕ)
+    → PutOrder (s .list) h (k .list) (v .list) room (putReply (s .list) h (k .list) (v .list) room)
 
 abbrev pub JoinReplies : Type 0
 JoinReplies =
-    (s k v : ByteString) (room : ℕ) → JoinOrder (s .list) (k .list) (v .list) room (joinReply (s .list) (k .list) (v .list) room)
+    (s : ByteString) (h : Head) (k v : ByteString) (room : ℕ)
+    → JoinOrder (s .list) h (k .list) (v .list) room (joinReply (s .list) h (k .list) (v .list) room)
 
 abbrev pub RemoveReplies : Type 0
-RemoveReplies = (s k : ByteString) (room : ℕ) → RemoveOrder (s .list) (k .list) room (removeReply (s .list) (k .list) room)
+RemoveReplies =
+    (s : ByteString) (h : Head) (k : ByteString) (room : ℕ) → RemoveOrder (s .list) h (k .list) room (removeReply (s .list) h (k .list) room)
 
 abbrev pub MergeReplies : Type 0
-MergeReplies = (s u : ByteString) (room : ℕ) → MergeOrder (s .list) (u .list) room (mergeReply (s .list) (u .list) room)
+MergeReplies =
+    (s : ByteString) (h : Head) (u : ByteString) (room : ℕ) → MergeOrder (s .list) h (u .list) room (mergeReply (s .list) h (u .list) room)
 
 abbrev pub DifferenceReplies : Type 0
 DifferenceReplies =
@@ -82,8 +89,8 @@ DifferenceComesApart =
     → takenApartInTwo (encodedOfTwo (countedAnswer (differenceOutcome (s .list) (u .list) room)))
     ≡ saidOfTwo (countedAnswer (differenceOutcome (s .list) (u .list) room))
 
--- Demand 3. For every list of puts, removals, joins and merges from any accepted register: every call answers as the plain map does, and after
--- the list the register held is, byte for byte, that of the map's set.
+-- Demand 3. For every list of puts, removals, joins and merges, with any heads, from any accepted register: every call answers and leaves its
+-- head as the plain map does, and after the list the register held is, byte for byte, that of the map's set.
 abbrev pub AnswersAsTheMap : Type 0
 AnswersAsTheMap =
     (start : ByteString) (rs : List Record) → RegisterOf (start .list) rs → (calls : List Call)
@@ -95,18 +102,40 @@ HoldsItsRegister =
     (start : ByteString) (rs : List Record) → RegisterOf (start .list) rs → (calls : List Call)
     → RegisterOf (held calls (start .list)) (mapSet calls rs)
 
--- Puts into the empty register reach any set: those of its records in key order, each with an output of 4,194,304 bytes, are all done.
-abbrev pub AllDone : List Said → Type 0
+-- A head that check answered and that goes along is true of the register held at every call, so that 17 is never given; and so it is at
+-- the end.
+pub record IsHeadOf (h : Head) (s : List ℕ) : Type 0 where
+  pub set : List Record
+  pub register : RegisterOf s set
+  pub same : h ≡ headOf set
+
+abbrev pub TrueAlong : List Request → Head → List ℕ → Type 0
+TrueAlong [] h s = IsHeadOf h s
+TrueAlong (q ∷ qs) h s =
+    let c : Call = record { head = h; request = q } in
+    IsHeadOf h s × (said (callAnswer c s) ≡ refusedWith 17 → ⊥) × TrueAlong qs (callHead c s) (heldAfter c s)
+
+abbrev pub HeadGoesAlong : Type 0
+HeadGoesAlong =
+    (start : ByteString) (rs : List Record) → RegisterOf (start .list) rs → (requests : List Request)
+    → TrueAlong requests (checkOutcome (start .list) .head) (start .list)
+
+-- Puts into the empty register reach any set: those of its records in key order, each with an output of 4,194,304 bytes and with the head that
+-- goes along, are all done.
+abbrev pub AllDone : List (Said × Head) → Type 0
 AllDone [] = Unit {0}
-AllDone (refusedWith n ∷ answers) = ⊥
-AllDone (doneWith values ∷ answers) = AllDone answers
+AllDone ((refusedWith n, h) ∷ answers) = ⊥
+AllDone ((doneWith values, h) ∷ answers) = AllDone answers
+
+abbrev pub putsInto : List Record → List Call
+putsInto rs = carrying (putsOf rs) (checkOutcome emptyRegister .head) emptyRegister
 
 abbrev pub PutsReachEverySet : Type 0
 PutsReachEverySet =
     (rs : List Record) → fits rs ≡ true
-    → AllDone (libraryAnswers (putsOf rs) emptyRegister)
-    × (held (putsOf rs) emptyRegister ≡ tableOf rs)
-    × RegisterOf (held (putsOf rs) emptyRegister) rs
+    → AllDone (libraryAnswers (putsInto rs) emptyRegister)
+    × (held (putsInto rs) emptyRegister ≡ tableOf rs)
+    × RegisterOf (held (putsInto rs) emptyRegister) rs
 
 -- Of all byte strings, exactly one is the register of a given set that fits. Its values are strings of bytes; its keys are by the key rule.
 abbrev pub ValuesAreBytes : List Record → Type 0
@@ -127,21 +156,22 @@ SameSetSameBytes =
     (s u : ByteString) (rs qs : List Record) → RegisterOf (s .list) rs → RegisterOf (u .list) qs → (calls others : List Call)
     → mapSet calls rs ≡ mapSet others qs → held calls (s .list) ≡ held others (u .list)
 
--- Merge is commutative, associative and idempotent, byte for byte, where no call compared is refused.
+-- Merge is commutative, associative and idempotent, byte for byte and in its heads, where no call compared is refused.
 abbrev pub MergeCommutes : Type 0
 MergeCommutes =
-    (a b : ByteString) (m n : ℕ) (ab ba : List ℕ)
-    → mergeOutcome (a .list) (b .list) m ≡ wrote ab → mergeOutcome (b .list) (a .list) n ≡ wrote ba → ab ≡ ba
+    (a b : ByteString) (f g : Head) (m n : ℕ) (ab ba : List ℕ) (h i : Head)
+    → mergeOutcome (a .list) f (b .list) m ≡ moved ab h → mergeOutcome (b .list) g (a .list) n ≡ moved ba i → (ab ≡ ba) × (h ≡ i)
 
 abbrev pub MergeAssociates : Type 0
 MergeAssociates =
-    (a b c : ByteString) (i j k l : ℕ) (ab bc abThenC aThenBc : List ℕ)
-    → mergeOutcome (a .list) (b .list) i ≡ wrote ab → mergeOutcome ab (c .list) j ≡ wrote abThenC
-    → mergeOutcome (b .list) (c .list) k ≡ wrote bc → mergeOutcome (a .list) bc l ≡ wrote aThenBc
-    → abThenC ≡ aThenBc
+    (a b c : ByteString) (f g : Head) (i j k l : ℕ) (ab bc abThenC aThenBc : List ℕ) (h h′ h″ h‴ : Head)
+    → mergeOutcome (a .list) f (b .list) i ≡ moved ab h → mergeOutcome ab h (c .list) j ≡ moved abThenC h′
+    → mergeOutcome (b .list) g (c .list) k ≡ moved bc h″ → mergeOutcome (a .list) f bc l ≡ moved aThenBc h‴
+    → (abThenC ≡ aThenBc) × (h′ ≡ h‴)
 
 abbrev pub MergeIdempotent : Type 0
-MergeIdempotent = (a : ByteString) (n : ℕ) (aa : List ℕ) → mergeOutcome (a .list) (a .list) n ≡ wrote aa → aa ≡ a .list
+MergeIdempotent =
+    (a : ByteString) (f : Head) (n : ℕ) (aa : List ℕ) (h : Head) → mergeOutcome (a .list) f (a .list) n ≡ moved aa h → (aa ≡ a .list) × (h ≡ f)
 
 -- No two unequal pages of the two share a digest.
 abbrev pub Among : List ℕ → List (List ℕ) → Type 0

@@ -1,4 +1,4 @@
--- The verdict on a register, as judge answers it, the count of its records, and what an accepted register has.
+-- The verdict on a register, as judge answers it, and what an accepted register has.
 use Prim.Native.Nat.{ℕ, _*_, _≤_, _+_, _^_, _<_}
 use mathlib.Core.Path.{_≡_, sym, ap, subst, _∙_}
 use mathlib.Core.List.{List}
@@ -8,7 +8,6 @@ use Rattle.limits.specs.Limits.{deepest}
 use Rattle.bytestring.proofs.Tools.{bytes-of}
 use Rattle.bytestring.specs.Bytes.{Bytes}
 use Rattle.answer.specs.declared.Refusal.{Refusal}
-use Rattle.answer.specs.declared.Answer.the-variants.{Done, Refused}
 use Rattle.tree.specs.Table.{table, tableOf, SpeltTree}
 use Rattle.tree.specs.Judge.{refused, judge}
 use Rattle.tree.proofs.Sizes.{table-length}
@@ -17,7 +16,6 @@ use Rattle.index.specs.Accepted.{AcceptedIndex, ChainRow}
 use Rattle.judge.specs.Verdict.{RoomFor, RegisterSays}
 use Rattle.judge.specs.declared.Register.{Register}
 use Rattle.judge.specs.declared.Register.the-variants.{Accepted, Refused as RefusedRegister}
-use Rattle.promises.specs.Outcome.{checkVerdict, checkAnswer}
 use Rattle.tree.specs.Record.{records}
 use Rattle.tree.proofs.Laws.{accepted-table}
 use Rattle.row.specs.Row.{Row, recordsOf}
@@ -34,15 +32,6 @@ module _ (s index row : List ℕ) (x : Register) (says : RegisterSays s x index 
 
   pub judged-refused : {r : Refusal} → x ≡ RefusedRegister r → judge s ≡ refused r
   judged-refused e = subst (λ (y : Register). RegisterSays s y index row) e says
-
--- ---- the answer of check
-pub checked : {s index : List ℕ} {count : ℕ} → AcceptedIndex s index count → Done count ≡ checkAnswer s
-unfolding checkAnswer checkVerdict
-checked a = rw (a .judged) (ap Done (a .size))
-
-pub check-refused : (s : List ℕ) {r : Refusal} → judge s ≡ refused r → Refused r ≡ checkAnswer s
-unfolding checkAnswer checkVerdict
-check-refused s e = rw e
 
 -- a register has few records
 pub accepted-few : {s index : List ℕ} {count : ℕ} → Bytes s → AcceptedIndex s index count → count ≤ 4096

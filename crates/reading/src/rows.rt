@@ -18,21 +18,10 @@ ghost use lib.ListN.{length};
 ghost use Rattle.tree.specs.Judge.{judge};
 ghost use Rattle.index.specs.Accepted.{AcceptedIndex};
 ghost use Rattle.promises.specs.Map.{nth};
-ghost use Rattle.promises.specs.Outcome.{checkAnswer, lookupAnswer, listOutcome, listAnswer, listKey, listValue};
+ghost use Rattle.promises.specs.Outcome.{lookupAnswer, listOutcome, listAnswer, listKey, listValue};
 ghost use Rattle.judge.specs.Verdict.{RoomFor};
 ghost use Rattle.reading.specs.Beside.{besideRecord, besideOutcome};
 ghost use Rattle.reading.specs.Positions.{acceptedRecords};
-
-// The record count.
-pub fn check_with_rows(register: &[u8], index: &mut [u64], chains: &mut [u64]) -> Answer
-    requires { ⌜ RoomFor (now register) 1 (length (now index)) × RoomFor (now register) 2 (length (now chains)) ⌝ }
-    ensures { λ r. ⌜ r ≡ checkAnswer (now (register .entry)) ⌝ }
-{
-    match judge(register, index, chains) {
-        Register::Accepted(count, _) => Answer::Done(count as u32),
-        Register::Refused(refusal) => Answer::Refused(refusal),
-    }
-}
 
 // The place where the value under a key begins.
 pub fn lookup_with_rows(

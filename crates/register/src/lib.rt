@@ -1,10 +1,12 @@
 // The calls on one register. A short register is judged with short rows, so that little is cleared.
 use answer::Answer;
+use checking::check_with_rows;
+use head::Head;
+use head::Headed;
 use limits::FEW;
 use limits::MOST;
 use limits::SHORT;
 use reading::rows::beside_with_rows;
-use reading::rows::check_with_rows;
 use reading::rows::list_with_rows;
 use reading::rows::lookup_with_rows;
 use value::Value;
@@ -13,14 +15,15 @@ use writing::rows::run_with_rows;
 use writing::rows::set_value_with_rows;
 ghost use mathlib.Core.Path.{_≡_};
 ghost use lib.ListN.{length};
-ghost use Rattle.promises.specs.Outcome.{checkAnswer, lookupAnswer, listOutcome, listAnswer, listKey, listValue, putOutcome, removeOutcome, joinOutcome, answerOf, outputOf};
+ghost use Rattle.promises.specs.Outcome.{checkOutcome, lookupAnswer, listOutcome, listAnswer, listKey, listValue, answerOf, outputOf};
+ghost use Rattle.promises.specs.Moved.{putOutcome, removeOutcome, joinOutcome, movedOutput, headed};
 ghost use Rattle.promises.specs.Range.{atOrAfterOutcome, beforeOutcome, runOutcome};
 ghost use Rattle.reading.specs.Beside.{besideOutcome};
 ghost use Rattle.writing.specs.Writing.{setOutcome};
 
-// Public call: the record count of a register.
-pub fn check(register: &[u8]) -> Answer
-    ensures { λ r. ⌜ r ≡ checkAnswer (now (register .entry)) ⌝ }
+// The call on a head by value: the head of a register, and 0; on refusal the head of zeros.
+pub fn check(register: &[u8]) -> Headed
+    ensures { λ r. ⌜ r ≡ checkOutcome (now (register .entry)) ⌝ }
 {
     if register.len() <= SHORT {
         let mut index = [0u64; FEW];
@@ -112,49 +115,74 @@ pub fn run(register: &[u8], first: &[u8], last: &[u8], out: &mut [u8]) -> Answer
     run_with_rows(register, first, last, &mut index, &mut chains, out)
 }
 
-// Public call: the register with a value set under a key. Its table is written with zeros after it, and the table's length is answered. On
-// refusal the output is zero, as it is after each call below.
-pub fn put(register: &[u8], key: &[u8], value: &[u8], out: &mut [u8]) -> Answer
-    ensures answer { λ r. ⌜ r ≡ answerOf (putOutcome (now (register .entry)) (now (key .entry)) (now (value .entry)) (length (now (out .entry)))) ⌝ }
-    ensures output { λ _. ⌜ now (out .exit) ≡ outputOf (putOutcome (now (register .entry)) (now (key .entry)) (now (value .entry)) (length (now (out .entry)))) (length (now (out .entry))) ⌝ }
+// The call on a head by value: the register with a value set under a key. Its table is written with zeros after it, its length is answered and
+// the head goes on to its own. On refusal the output is zero and the head as it was lent, as they are after each call below.
+pub fn put(register: &[u8], head: Head, key: &[u8], value: &[u8], out: &mut [u8]) -> Headed
+    ensures headed { λ r. ⌜ r ≡ headed (putOutcome (now (register .entry)) head (now (key .entry)) (now (value .entry)) (length (now (out .entry)))) head ⌝ }
+    ensures output { λ _. ⌜ now (out .exit) ≡ movedOutput (putOutcome (now (register .entry)) head (now (key .entry)) (now (value .entry)) (length (now (out .entry)))) (length (now (out .entry))) ⌝ }
 {
-    set_value(register, key, value, false, out)
+    set_value(register, head, key, value, false, out)
 }
 
-// Public call: the same, but of two values under the key the greater is kept.
-pub fn join(register: &[u8], key: &[u8], value: &[u8], out: &mut [u8]) -> Answer
-    ensures answer { λ r. ⌜ r ≡ answerOf (joinOutcome (now (register .entry)) (now (key .entry)) (now (value .entry)) (length (now (out .entry)))) ⌝ }
-    ensures output { λ _. ⌜ now (out .exit) ≡ outputOf (joinOutcome (now (register .entry)) (now (key .entry)) (now (value .entry)) (length (now (out .entry)))) (length (now (out .entry))) ⌝ }
+// The same, but of two values under the key the greater is kept.
+pub fn join(register: &[u8], head: Head, key: &[u8], value: &[u8], out: &mut [u8]) -> Headed
+    ensures headed { λ r. ⌜ r ≡ headed (joinOutcome (now (register .entry)) head (now (key .entry)) (now (value .entry)) (length (now (out .entry)))) head ⌝ }
+    ensures output { λ _. ⌜ now (out .exit) ≡ movedOutput (joinOutcome (now (register .entry)) head (now (key .entry)) (now (value .entry)) (length (now (out .entry)))) (length (now (out .entry))) ⌝ }
 {
-    set_value(register, key, value, true, out)
+    set_value(register, head, key, value, true, out)
 }
 
 // Put, or join.
-fn set_value(register: &[u8], key: &[u8], value: &[u8], greater: bool, out: &mut [u8]) -> Answer
-    ensures answer { λ r. ⌜ r ≡ answerOf (setOutcome greater (now (register .entry)) (now (key .entry)) (now (value .entry)) (length (now (out .entry)))) ⌝ }
-    ensures output { λ _. ⌜ now (out .exit) ≡ outputOf (setOutcome greater (now (register .entry)) (now (key .entry)) (now (value .entry)) (length (now (out .entry)))) (length (now (out .entry))) ⌝ }
+fn set_value(
+    register: &[u8],
+    head: Head,
+    key: &[u8],
+    value: &[u8],
+    greater: bool,
+    out: &mut [u8],
+) -> Headed
+    ensures headed { λ r. ⌜ r ≡ headed (setOutcome greater (now (register .entry)) head (now (key .entry)) (now (value .entry)) (length (now (out .entry)))) head ⌝ }
+    ensures output { λ _. ⌜ now (out .exit) ≡ movedOutput (setOutcome greater (now (register .entry)) head (now (key .entry)) (now (value .entry)) (length (now (out .entry)))) (length (now (out .entry))) ⌝ }
 {
     if register.len() <= SHORT {
         let mut index = [0u64; FEW];
         let mut chains = [0u64; 2 * FEW];
-        return set_value_with_rows(register, key, value, greater, &mut index, &mut chains, out);
+        return set_value_with_rows(
+            register,
+            head,
+            key,
+            value,
+            greater,
+            &mut index,
+            &mut chains,
+            out,
+        );
     }
     let mut index = [0u64; MOST];
     let mut chains = [0u64; 2 * MOST];
-    set_value_with_rows(register, key, value, greater, &mut index, &mut chains, out)
+    set_value_with_rows(
+        register,
+        head,
+        key,
+        value,
+        greater,
+        &mut index,
+        &mut chains,
+        out,
+    )
 }
 
-// Public call: the register without a key.
-pub fn remove(register: &[u8], key: &[u8], out: &mut [u8]) -> Answer
-    ensures answer { λ r. ⌜ r ≡ answerOf (removeOutcome (now (register .entry)) (now (key .entry)) (length (now (out .entry)))) ⌝ }
-    ensures output { λ _. ⌜ now (out .exit) ≡ outputOf (removeOutcome (now (register .entry)) (now (key .entry)) (length (now (out .entry)))) (length (now (out .entry))) ⌝ }
+// The call on a head by value: the register without a key.
+pub fn remove(register: &[u8], head: Head, key: &[u8], out: &mut [u8]) -> Headed
+    ensures headed { λ r. ⌜ r ≡ headed (removeOutcome (now (register .entry)) head (now (key .entry)) (length (now (out .entry)))) head ⌝ }
+    ensures output { λ _. ⌜ now (out .exit) ≡ movedOutput (removeOutcome (now (register .entry)) head (now (key .entry)) (length (now (out .entry)))) (length (now (out .entry))) ⌝ }
 {
     if register.len() <= SHORT {
         let mut index = [0u64; FEW];
         let mut chains = [0u64; 2 * FEW];
-        return remove_with_rows(register, key, &mut index, &mut chains, out);
+        return remove_with_rows(register, head, key, &mut index, &mut chains, out);
     }
     let mut index = [0u64; MOST];
     let mut chains = [0u64; 2 * MOST];
-    remove_with_rows(register, key, &mut index, &mut chains, out)
+    remove_with_rows(register, head, key, &mut index, &mut chains, out)
 }

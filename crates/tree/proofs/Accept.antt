@@ -272,3 +272,7 @@ module _ (s : List ℕ) (bytes : Bytes s) (t : SpeltTree) where
       (λ e q. let r = read-accepts t (readTree deepest s) q in from-tests (leb-true (length s) longest e) (r .0) (r .1) (r .2))
       (λ e q. absurd (refused≢accepted q))
       h
+
+-- a byte string is accepted with one tree
+pub one-tree : (s : List ℕ) {t u : SpeltTree} → judge s ≡ accepted t → judge s ≡ accepted u → t ≡ u
+one-tree s j k = let e : accepted _ ≡ accepted _ = sym j ∙ k in cc

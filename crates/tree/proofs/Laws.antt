@@ -22,7 +22,7 @@ pub use Rattle.tree.proofs.Shape.{same-refl, same-equal, layerOfRecord,
 -- tables: both ways of reading, and pages with the same bytes
 pub use Rattle.tree.proofs.Tables.{AllUnder, AllFrom, Good, page-injective, tree-reads, tree-spells}
 -- the table of a set that fits is accepted, and what is accepted is such a table
-pub use Rattle.tree.proofs.Accept.{records-of-set, items-of-set, table-accepted, Accepted, accepted-table}
+pub use Rattle.tree.proofs.Accept.{records-of-set, items-of-set, table-accepted, Accepted, accepted-table, one-tree}
 -- the table of a set is bytes
 pub use Rattle.tree.proofs.TableBytes.{table-bytes}
 -- and no longer than that of the set with more records at its end

@@ -35,7 +35,7 @@ module _ {t : Page Record (List ℕ)} {o after : List ℕ} {r : Wrote} (w : Writ
   table-fits = leb-true (length (table (spelt t))) (length o) (sym (w .room) ∙ e)
 
   -- it begins with its first page
-  first-page : take (r .own) after ≡ bytesOfPage (spelt t)
+  pub first-page : take (r .own) after ≡ bytesOfPage (spelt t)
   first-page =
       let rest : List ℕ = behindPage t ++ drop (length (table (spelt t))) o in
       let whole : after ≡ bytesOfPage (spelt t) ++ rest =

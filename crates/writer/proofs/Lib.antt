@@ -5,3 +5,4 @@ pub mod Gaps
 pub mod Turns
 pub mod Composing
 pub mod Whole
+pub mod Heads

@@ -1,57 +1,37 @@
 -- The table of a row's first records, and the output that it stands in.
-use Prim.Native.Nat.{ℕ, zero, suc, _+_, _-_, _≤_, _<_, min}
-use mathlib.Core.Path.{_≡_, refl, sym, ap, _∙_}
+use Prim.Native.Nat.{ℕ, _-_, _≤_, min}
+use mathlib.Core.Path.{_≡_, sym, ap, _∙_}
 use mathlib.Core.Bool.{true, cond, _&&_}
-use mathlib.Core.List.{List, _++_, map, append-assoc}
+use mathlib.Core.List.{List, _++_, append-assoc}
 use native.Mathlib.Omega.{arith}
 use borrow.Author.Tests.{le-leb, lt-leb, leb-true, leb-false}
 use borrow.Table.Steps.{cases}
 use lib.Dec.{leb}
-use lib.ListN.{length, take, drop, getD, replicate, length-append, length-drop, length-replicate, take-append-drop}
-use lib.Seq.{length-take-le, take-at, drop-cons}
-use Rattle.word.specs.Word.{layerIn}
+use lib.ListN.{length, take, drop, replicate, length-append, length-drop, length-replicate, take-append-drop}
+use lib.Seq.{length-take-le, take-at, take-append-le, length-front}
 use Rattle.limits.specs.Limits.{longest}
 use Rattle.bytestring.proofs.Lending.{lent, back, back-is}
 use Rattle.bytestring.specs.Bytes.{zeros}
 use Rattle.answer.specs.declared.Refusal.the-variants.{NoRoom}
 use Rattle.answer.specs.declared.Answer.the-variants.{Done, Refused}
-use Rattle.key.specs.Layer.{layerOf}
 use Rattle.tree.specs.Tree.{Page, topLayer, treeOf}
-use Rattle.tree.specs.Record.{Record, spelt, placed}
-use Rattle.tree.specs.Table.{table, treeOfSet}
-use Rattle.row.specs.Row.{recordOfWord, Stands, Row, recordsOf}
-use Rattle.row.proofs.Rows.{word-record}
+use Rattle.tree.specs.Record.{Record, spelt}
+use Rattle.tree.specs.Table.{bytesOfPage, table, treeOfSet}
+use Rattle.row.specs.Row.{Row, recordsOf}
 use Rattle.row.proofs.Memories.{fresh-zeros}
 use Rattle.layout.specs.Build.{recordIn, span}
 use Rattle.layout.specs.Layout.{Ready}
+use Rattle.layout.proofs.RowRecords.{row-placed}
 use Rattle.writer.specs.Wrote.{pageAt, Written}
 use Rattle.writer.specs.Output.{fitsOutput, tableAnswer, tableOutput}
 use Rattle.writer.specs.declared.pages.Wrote.{Wrote}
-use Rattle.writer.proofs.Gaps.{table-done, table-fits}
+use Rattle.writer.proofs.Gaps.{table-done, table-fits, first-page, own-fits}
 
--- ---- the records of a row
--- a word's layer is that of its record's key
-record-placed : (s u row : List ℕ) (i : ℕ) → Stands s u (getD row i 0) → recordIn s u row i ≡ placed (recordOfWord s u (getD row i 0))
-unfolding recordIn
-record-placed s u row i v =
-    let e : layerIn (getD row i 0) ≡ layerOf (recordOfWord s u (getD row i 0) .key) = v .layer ∙ ap (λ (r : Record). layerOf (r .key)) (sym (word-record (v .held))) in
-    rw e
-
-span-placed : (s u row : List ℕ) (m i : ℕ) → i + m ≤ length row → ((j : ℕ) → i ≤ j → j < i + m → Stands s u (getD row j 0))
-    → span (recordIn s u row) i m ≡ map placed (map (recordOfWord s u) (take m (drop i row)))
-unfolding span
-span-placed s u row zero i h st = refl
-span-placed s u row (suc m) i h st =
-    rw (drop-cons row i 0 (omega arith), record-placed s u row i (st i (omega arith) (omega arith)), span-placed s u row m (suc i) (omega arith) (λ j a b. st j (omega arith) (omega arith)))
-
+-- ---- the tree of a row's first records
 module _ {s u row : List ℕ} {n : ℕ} (r : Row s u row n) where
-  row-placed : span (recordIn s u row) 0 n ≡ map placed (recordsOf s u row n)
-  unfolding recordsOf
-  row-placed = span-placed s u row n 0 (omega (arith, r .room)) (λ j a b. r .stands j (omega arith))
-
-  pub row-tree : (top : ℕ) → top ≡ topLayer (span (recordIn s u row) 0 n) → pageAt s u row 0 n top ≡ treeOfSet (recordsOf s u row n)
+  row-tree : (top : ℕ) → top ≡ topLayer (span (recordIn s u row) 0 n) → pageAt s u row 0 n top ≡ treeOfSet (recordsOf s u row n)
   unfolding treeOfSet treeOf
-  row-tree top e = let z : n - 0 ≡ n = omega arith in rw (z, e, row-placed)
+  row-tree top e = let z : n - 0 ≡ n = omega arith in rw (z, e, row-placed r)
 
   -- nothing is remembered at first
   pub row-ready : Ready s u row (replicate 32768 0) (replicate 128 0) 0 n
@@ -76,31 +56,40 @@ least-leb a b c =
     (λ f. rw (e, f) (lt-leb a (min b c) (omega (arith, leb-false a c f)))))
     (λ e. rw e (lt-leb a (min b c) (omega (arith, leb-false a b e))))
 
+-- the bytes of o that are used
+pub used-length : (o : List ℕ) (k : ℕ) → k ≡ min (length o) longest → length (take k o) ≡ k
+used-length o k e = length-take-le k o (omega arith)
+
 -- the table of t was written into the first k bytes of o
 pub record WrittenInto (t : Page Record (List ℕ)) (o : List ℕ) (k : ℕ) (ys : List ℕ) (r : Wrote) : Type 0 where
   pub used : k ≡ min (length o) longest
+  pub kept : length ys ≡ length (take k o)
   pub written : Written t (take k o) ys r
 
-module _ {t : Page Record (List ℕ)} {o : List ℕ} {k : ℕ} {ys : List ℕ} {r : Wrote} (w : WrittenInto t o k ys r) where
-  used-length : length (take k o) ≡ k
-  used-length = let h : k ≤ length o = omega (arith, w .used) in length-take-le k o h
+pub row-written : {s u row : List ℕ} {n : ℕ} → Row s u row n → (top : ℕ) → top ≡ topLayer (span (recordIn s u row) 0 n) → {o : List ℕ} {k : ℕ} {ys : List ℕ} {r : Wrote}
+    → k ≡ min (length o) longest → length ys ≡ length (take k o) → Written (pageAt s u row 0 n top) (take k o) ys r → WrittenInto (treeOfSet (recordsOf s u row n)) o k ys r
+row-written row top e used kept w = record { used = used; kept = kept; written = rw (← row-tree row top e) w }
 
-  fit-is : r .room ≡ fitsOutput (table (spelt t)) (length o)
+module _ {t : Page Record (List ℕ)} {o : List ℕ} {k : ℕ} {ys : List ℕ} {r : Wrote} (w : WrittenInto t o k ys r) where
+  lent-length : length (take k o) ≡ k
+  lent-length = used-length o k (w .used)
+
+  pub fit-is : r .room ≡ fitsOutput (table (spelt t)) (length o)
   unfolding fitsOutput
-  fit-is = w .written .room ∙ rw (used-length, w .used) (least-leb (length (table (spelt t))) (length o) longest)
+  fit-is = w .written .room ∙ rw (lent-length, w .used) (least-leb (length (table (spelt t))) (length o) longest)
 
   module _ (e : r .room ≡ true) where
     behind : List ℕ
     behind = drop (length (table (spelt t))) (take k o) ++ drop k o
 
     small : length (table (spelt t)) ≤ k
-    small = omega (arith, table-fits (w .written) e, used-length)
+    small = omega (arith, table-fits (w .written) e, lent-length)
 
     behind-length : length behind ≡ length o - length (table (spelt t))
     unfolding behind
     behind-length =
         length-append (drop (length (table (spelt t))) (take k o)) (drop k o)
-        ∙ omega (arith, length-drop (length (table (spelt t))) (take k o), length-drop k o, used-length, small, w .used)
+        ∙ omega (arith, length-drop (length (table (spelt t))) (take k o), length-drop k o, lent-length, small, w .used)
 
     whole-is : ys ++ drop k o ≡ table (spelt t) ++ behind
     unfolding behind
@@ -112,6 +101,15 @@ module _ {t : Page Record (List ℕ)} {o : List ℕ} {k : ℕ} {ys : List ℕ} {
     pub len-fits : r .len ≤ length (ys ++ drop k o)
     len-fits = omega (arith, table-done (w .written) e .size, ap length whole-is, length-append (table (spelt t)) behind)
 
+    own-small : r .own ≤ length ys
+    own-small = own-fits (w .written) (w .kept) e
+
+    pub root-fits : r .own ≤ length (ys ++ drop k o)
+    root-fits = omega (arith, own-small, length-append ys (drop k o))
+
+    pub root-is : take (r .own) (ys ++ drop k o) ≡ bytesOfPage (spelt t)
+    root-is = take-append-le (r .own) ys (drop k o) own-small ∙ first-page (w .written) e
+
     take-is : take (r .len) (ys ++ drop k o) ≡ table (spelt t)
     take-is = rw whole-is (take-at (table (spelt t)) behind (r .len) (sym (table-done (w .written) e .size)))
 
@@ -119,8 +117,9 @@ module _ {t : Page Record (List ℕ)} {o : List ℕ} {k : ℕ} {ys : List ℕ} {
   unfolding tableAnswer
   answer-is = cases (r .room) (λ e. rw (← fit-is, e, table-done (w .written) e .size)) (λ e. rw (← fit-is, e))
 
-  pub output-is : length (ys ++ drop k o) ≡ length o
-      → cond (r .room) (take (r .len) (ys ++ drop k o) ++ zeros (length (ys ++ drop k o) - r .len)) (zeros (length (ys ++ drop k o))) ≡ tableOutput (table (spelt t)) (length o)
+  pub output-is :
+      cond (r .room) (take (r .len) (ys ++ drop k o) ++ zeros (length (ys ++ drop k o) - r .len)) (zeros (length (ys ++ drop k o))) ≡ tableOutput (table (spelt t)) (length o)
   unfolding tableOutput
-  output-is same =
+  output-is =
+      let same : length (ys ++ drop k o) ≡ length o = length-front o ys k (w .kept) in
       cases (r .room) (λ e. rw (same, take-is e, ← fit-is, e, table-done (w .written) e .size)) (λ e. rw (same, ← fit-is, e))

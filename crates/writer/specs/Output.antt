@@ -9,6 +9,11 @@ use Rattle.bytestring.specs.Bytes.{zeros}
 use Rattle.answer.specs.declared.Refusal.the-variants.{NoRoom}
 use Rattle.answer.specs.declared.Answer.{Answer}
 use Rattle.answer.specs.declared.Answer.the-variants.{Done, Refused}
+use Rattle.tree.specs.Record.{Record}
+use Rattle.tree.specs.Table.{tableOf}
+use Rattle.head.specs.declared.Head.{Head}
+use Rattle.head.specs.declared.Headed.{Headed}
+use Rattle.head.specs.Head.{headOf}
 
 -- A table fits an output that is as long, and is no longer than any register.
 unfoldable pub fitsOutput : List ℕ → ℕ → Bool
@@ -21,3 +26,8 @@ tableAnswer t room = cond (fitsOutput t room) (Done (length t)) (Refused NoRoom)
 -- The table and zeros after it, or zeros alone.
 unfoldable pub tableOutput : List ℕ → ℕ → List ℕ
 tableOutput t room = cond (fitsOutput t room) (t ++ zeros (room - length t)) (zeros room)
+
+-- The same of a call that is lent a head: it goes on to that of the set whose table is written.
+unfoldable pub tableHeaded : List Record → Head → ℕ → Headed
+tableHeaded rs lent room =
+    record { answer = tableAnswer (tableOf rs) room; head = cond (fitsOutput (tableOf rs) room) (headOf rs) lent }

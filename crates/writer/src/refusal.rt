@@ -3,6 +3,8 @@ use answer::Answer;
 use answer::AnswerOfTwo;
 use answer::Refusal;
 use bytestring::clear;
+use head::Head;
+use head::Headed;
 ghost use mathlib.Core.Path.{_≡_};
 ghost use lib.ListN.{length};
 ghost use Rattle.bytestring.specs.Bytes.{zeros};
@@ -25,4 +27,14 @@ pub fn refuse_two(out: &mut [u8], refusal: Refusal) -> AnswerOfTwo
 {
     clear(out);
     AnswerOfTwo::Refused(refusal)
+}
+
+// The same of a call that is lent a head: it is as it was lent.
+pub fn refuse_headed(out: &mut [u8], refusal: Refusal, head: Head) -> Headed
+    ensures headed { λ r. ⌜ r ≡ record { answer = Refused refusal; head = head } ⌝ }
+    ensures output { λ _. ⌜ now (out .exit) ≡ zeros (length (now (out .entry))) ⌝ }
+{
+    let answer = refuse(out, refusal);
+    let kept = head;
+    Headed { answer, head: kept }
 }

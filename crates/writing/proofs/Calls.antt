@@ -21,14 +21,17 @@ use Rattle.index.specs.Slot.{slots}
 use Rattle.index.proofs.SlotLaws.{slots-length, slots-places}
 use Rattle.row.specs.Row.{nothing, recordOfWord, Stands, recordsOf, Row}
 use Rattle.row.proofs.Rows.{records-length}
-use Rattle.writer.specs.Output.{tableAnswer, tableOutput}
+use Rattle.head.specs.declared.Head.{Head}
+use Rattle.head.specs.declared.Headed.{Headed}
+use Rattle.writer.specs.Output.{tableAnswer, tableOutput, tableHeaded}
 use Rattle.promises.specs.Map.{find, remove}
-use Rattle.promises.specs.Outcome.{stopped, placeOf, removeOutcome}
+use Rattle.promises.specs.Outcome.{placeOf}
+use Rattle.promises.specs.Moved.{stopped, removeOutcome}
 use Rattle.row.specs.Search.{placeFound, PositionIs, SearchSays, countBelow, countUpTo}
 use Rattle.row_words.specs.RowWords.{LeftOut, Single}
 use Rattle.choice.specs.Choice.{choiceOf, weave, wovenOf, RowOf, ChooseSays}
 use Rattle.writing.specs.Tests.{recordTests, rangeTests}
-use Rattle.writing.specs.Writing.{written, setOutcome, recordsFrom}
+use Rattle.writing.specs.Writing.{written, movedTo, setOutcome, recordsFrom}
 use Rattle.choice.specs.declared.choose.Chosen.{Chosen}
 use Rattle.choice.specs.declared.choose.Chosen.the-variants.{Count, TooMany}
 use Rattle.row.specs.declared.search.Searched.{Searched}
@@ -37,7 +40,9 @@ use Rattle.choice.proofs.Weaving.{remove-at, find-at}
 use Rattle.choice.proofs.Choosing.{all-first, first-at, all-drop, records-slice, records-front}
 use Rattle.reading.proofs.Verdicts.{Accepting, t, sorted, short, row-first, records-first, accepted-few}
 use Rattle.reading.proofs.Answering.{none≢some, searched, position-is, position-within}
-use Rattle.writing.proofs.Writing.{Says, written-many, written-says, tested-value, set-written, remove-absent, remove-written, test-held, run-written}
+use Rattle.checking.specs.Lent.{TrueOf}
+use Rattle.writing.proofs.Writing.{Says, written-says, tested-value, test-held, run-written}
+use Rattle.writing.proofs.Moving.{Gives, moved-many, moved-gives, set-written, remove-absent, remove-written}
 use borrow.Author.Tests.{not-true}
 use Rattle.promises.specs.Range.{recordsBetween, runOutcome}
 use Rattle.row.proofs.Counting.{counts-rise, between-slice}
@@ -55,12 +60,19 @@ module _ {s u row : List ℕ} {n : ℕ} {rs : List Record} (w : RowOf s u row n 
   row-written answer out says =
       let w′ = written-says rs room few in (says .0 ∙ rw (w .records) (w′ .0), says .1 ∙ rw (w .records) (w′ .1))
 
+  -- of a call that is lent a head
+  pub row-moved : (lent : Head) (given : Headed) (out : List ℕ)
+      → (given ≡ tableHeaded (recordsOf s u row n) lent room) × (out ≡ tableOutput (tableOf (recordsOf s u row n)) room)
+      → Gives (movedTo rs room) lent room given out
+  row-moved lent given out gives =
+      let w′ = moved-gives rs room few lent in (gives .0 ∙ rw (w .records) (w′ .0), gives .1 ∙ rw (w .records) (w′ .1))
+
 module _ (s u row : List ℕ) (rs : List Record) (c : Chosen) (w : ChooseSays s u rs c row) where
   pub chosen-row : {n : ℕ} → c ≡ Count n → RowOf s u row n rs
   chosen-row e = subst (λ (x : Chosen). ChooseSays s u rs x row) e w
 
-  pub chosen-many : (room : ℕ) → c ≡ TooMany → written rs room ≡ stopped TooManyRecords
-  chosen-many room e = written-many rs room (subst (λ (x : Chosen). ChooseSays s u rs x row) e w)
+  pub chosen-many : (room : ℕ) → c ≡ TooMany → movedTo rs room ≡ stopped TooManyRecords
+  chosen-many room e = moved-many rs room (subst (λ (x : Chosen). ChooseSays s u rs x row) e w)
 
 -- ---- a key that is not found
 places-length : (t : SpeltTree) → length (places 0 t) ≡ length (records t)
@@ -75,20 +87,20 @@ not-found k (r ∷ rs) (p ∷ ps) l e =
     cond-inv (less k (r .key)) (λ h _. rw h)
     (λ h f. cond-inv (less (r .key) k) (λ g q. rw (h, g) (not-found k rs ps shorter q)) (λ g q. absurd (none≢some (sym q))) f) e
 
-module _ {s index : List ℕ} {count : ℕ} (a : Accepting s index count) where
+module _ {s index : List ℕ} {count : ℕ} (a : Accepting s index count) (h : Head) (own : TrueOf s h) where
   -- ---- put and join
   module _ (g : Bool) (k value v : List ℕ) (q : due (recordTests k value) ≡ none) (copied : 0 + 32 ≤ length value → v ≡ take 32 (drop 0 value))
       (page : List ℕ) (w : ℕ) (one : Single k v page w) where
     same-value : v ≡ value
     same-value = let long = tested-value k value q in copied (omega arith) ∙ take-all 32 value (omega arith)
 
-    pub set-done : (out : ℕ) → written (wovenOf g s page index count (w ∷ []) 1) out ≡ setOutcome g s k value out
+    pub set-done : (out : ℕ) → movedTo (wovenOf g s page index count (w ∷ []) 1) out ≡ setOutcome g s h k value out
     unfolding wovenOf recordsOf
     set-done out =
-        ap (λ (rs : List Record). written rs out)
+        ap (λ (rs : List Record). movedTo rs out)
         (ap (λ (rs : List Record). weave (choiceOf g) rs (recordOfWord s page w ∷ [])) (records-first a page)
         ∙ rw (one .spells s, same-value))
-        ∙ set-written g s k value out (t a) (a .given .judged) q
+        ∙ set-written g s h k value out (t a) (a .given .judged) own q
 
   -- ---- remove
   module _ (k : List ℕ) (r : Searched) (v : SearchSays s index count k r) where
@@ -127,14 +139,14 @@ module _ {s index : List ℕ} {count : ℕ} (a : Accepting s index count) where
           records = rw left (map-append (recordOfWord s s) (take position index) (drop (position + 1) (take count index)) ∙ left-records);
         }
 
-        pub remove-done : (out : ℕ) → lawful k ≡ true → written (remove k (records (t a))) out ≡ removeOutcome s k out
+        pub remove-done : (out : ℕ) → lawful k ≡ true → movedTo (remove k (records (t a))) out ≡ removeOutcome s h k out
         remove-done out l =
-            remove-written s k out (t a) (a .given .judged) l _ (find-at k nothing (records (t a)) (sorted a) position (found .0) (found .1))
+            remove-written s h k out (t a) (a .given .judged) own l _ (find-at k nothing (records (t a)) (sorted a) position (found .0) (found .1))
 
-    pub absent-done : (out : ℕ) → lawful k ≡ true → (position : ℕ) → r ≡ Absent position → removeOutcome s k out ≡ stopped KeyAbsent
+    pub absent-done : (out : ℕ) → lawful k ≡ true → (position : ℕ) → r ≡ Absent position → removeOutcome s h k out ≡ stopped KeyAbsent
     absent-done out l position e =
         let nowhere = sym (searched (a .given) k r v .0) ∙ ap placeFound e in
-        remove-absent s k out (t a) (a .given .judged) l (not-found k (records (t a)) (places 0 (t a)) (places-length (t a)) nowhere)
+        remove-absent s h k out (t a) (a .given .judged) own l (not-found k (records (t a)) (places 0 (t a)) (places-length (t a)) nowhere)
 
 -- ---- run
 -- the words of a part of the index stand for that part of the records

@@ -1,4 +1,5 @@
 pub mod Writing
+pub mod Moving
 pub mod Calls
 pub mod Placing
 pub mod Setting

@@ -1,5 +1,5 @@
--- What the writing calls answer and write: their tests in order, and the table of their result.
-use Prim.Native.Nat.{ℕ, _≤_, _<_}
+-- The tests of a call's arguments in their order, the table of a result, and what run answers and writes.
+use Prim.Native.Nat.{ℕ, _≤_}
 use mathlib.Core.Path.{_≡_, refl, _∙_}
 use mathlib.Core.Bool.{Bool, true, false, _&&_}
 use mathlib.Core.Option.{Option, none, some}
@@ -7,12 +7,12 @@ use mathlib.Core.List.{List, [], _∷_, _++_}
 use native.Mathlib.Omega.{arith}
 use lib.ListN.{length}
 use lib.Dec.{leb}
-use borrow.Author.Tests.{le-leb, lt-leb, eqb-true}
+use borrow.Author.Tests.{le-leb, eqb-true}
 use borrow.Table.Steps.{cases}
 use Rattle.limits.specs.Limits.{longest, most}
 use Rattle.bytestring.specs.Bytes.{zeros}
 use Rattle.answer.specs.declared.Refusal.{Refusal}
-use Rattle.answer.specs.declared.Refusal.the-variants.{TooManyRecords, UnlawfulKey, KeyAbsent}
+use Rattle.answer.specs.declared.Refusal.the-variants.{UnlawfulKey}
 use Rattle.answer.specs.declared.Answer.{Answer}
 use Rattle.answer.specs.declared.Answer.the-variants.{Done, Refused}
 use Rattle.key.specs.Key.{lawful, slashAnswer}
@@ -22,14 +22,11 @@ use Rattle.tree.specs.Record.{Record, records}
 use Rattle.tree.specs.Table.{SpeltTree, tableOf}
 use Rattle.tree.specs.Judge.{Test, due, refused, accepted, judge}
 use Rattle.writer.specs.Output.{fitsOutput, tableAnswer, tableOutput}
-use Rattle.promises.specs.Map.{find, isThere, remove}
-use Rattle.promises.specs.Outcome.{Outcome, stopped, Plan, roomTest, sizes, settle, carryOut, putPlan, joinPlan, removePlan, onFirst, putOutcome, joinOutcome, removeOutcome, answerOf, outputOf}
+use Rattle.promises.specs.Outcome.{Outcome, stopped, roomTest, sizes, settle, answerOf, outputOf}
 use Rattle.promises.specs.Range.{isBetween, recordsBetween, runTests, runVerdict, runOutcome}
 use Rattle.promises.proofs.Parts.{whose-few}
-use Rattle.choice.specs.Choice.{choiceOf, weave}
-use Rattle.choice.proofs.Weaving.{weave-put, weave-join}
 use Rattle.writing.specs.Tests.{rangeTests, recordTests, answerDue}
-use Rattle.writing.specs.Writing.{written, setOutcome}
+use Rattle.writing.specs.Writing.{written}
 
 -- ---- answer and output
 abbrev pub Says : Outcome → ℕ → Answer → List ℕ → Type 0
@@ -87,22 +84,18 @@ tested-key k v e = test-held _ _ e .0
 
 -- tests that follow others
 module _ (us : List Test) where
-  due-first : (ts : List Test) {r : Refusal} → due ts ≡ some r → due (ts ++ us) ≡ some r
+  pub due-first : (ts : List Test) {r : Refusal} → due ts ≡ some r → due (ts ++ us) ≡ some r
   unfolding due
   due-first [] e = let z : _≡_ {A = ℕ} 0 1 = cc in absurd (omega arith)
   due-first (t ∷ ts) e = cases (t .1) (λ h. rw h (due-first ts (rw h at e))) (λ h. rw h (rw h at e))
 
-  due-after : (ts : List Test) → due ts ≡ none → due (ts ++ us) ≡ due us
+  pub due-after : (ts : List Test) → due ts ≡ none → due (ts ++ us) ≡ due us
   unfolding due
   due-after [] e = refl
   due-after (t ∷ ts) e = let w = test-held t ts e in rw (w .0) (due-after ts (w .1))
 
 -- ---- the table of a result
 module _ (rs : List Record) (room : ℕ) where
-  pub written-many : most < length rs → written rs room ≡ stopped TooManyRecords
-  unfolding written sizes due settle
-  written-many h = rw (lt-leb (length rs) most h)
-
   module _ (few : length rs ≤ most) where
     pub few-sizes : due (sizes rs room) ≡ due (roomTest rs room ∷ [])
     unfolding sizes due
@@ -113,53 +106,6 @@ module _ (rs : List Record) (room : ℕ) where
     written-says =
         let t : List ℕ = tableOf rs in
         rw few-sizes (cases (leb (length t) room && leb (length t) longest) (λ e. rw e (refl, refl)) (λ e. rw e (refl, refl)))
-
--- ---- the calls that carry out a plan
-module _ (s : List ℕ) (plan : List Record → Plan) (room : ℕ) where
-  pub plan-refused : {r : Refusal} → judge s ≡ refused r → onFirst (judge s) plan room ≡ stopped r
-  unfolding onFirst
-  plan-refused e = rw e
-
-  module _ (t : SpeltTree) (e : judge s ≡ accepted t) where
-    pub plan-stopped : {r : Refusal} → due (plan (records t) .asks) ≡ some r → onFirst (judge s) plan room ≡ stopped r
-    unfolding onFirst carryOut settle
-    plan-stopped q = rw (e, due-first (sizes (plan (records t) .result) room) (plan (records t) .asks) q)
-
-    pub plan-written : due (plan (records t) .asks) ≡ none → written (plan (records t) .result) room ≡ onFirst (judge s) plan room
-    unfolding onFirst carryOut written
-    plan-written q = rw (e, due-after (sizes (plan (records t) .result) room) (plan (records t) .asks) q)
-
--- ---- put and join
-module _ (g : Bool) (s k v : List ℕ) (room : ℕ) where
-  pub set-refused : {r : Refusal} → judge s ≡ refused r → setOutcome g s k v room ≡ stopped r
-  unfolding setOutcome putOutcome joinOutcome
-  set-refused e = cases g (λ h. rw h (plan-refused s (joinPlan k v) room e)) (λ h. rw h (plan-refused s (putPlan k v) room e))
-
-  module _ (t : SpeltTree) (e : judge s ≡ accepted t) where
-    pub set-stopped : {r : Refusal} → due (recordTests k v) ≡ some r → setOutcome g s k v room ≡ stopped r
-    unfolding setOutcome putOutcome joinOutcome putPlan joinPlan
-    set-stopped q = cases g (λ h. rw h (plan-stopped s (joinPlan k v) room t e q)) (λ h. rw h (plan-stopped s (putPlan k v) room t e q))
-
-    pub set-written : due (recordTests k v) ≡ none
-        → written (weave (choiceOf g) (records t) (record { key = k; val = v } ∷ [])) room ≡ setOutcome g s k v room
-    unfolding setOutcome putOutcome joinOutcome putPlan joinPlan
-    set-written q =
-        cases g (λ h. rw (h, weave-join) (plan-written s (joinPlan k v) room t e q)) (λ h. rw (h, weave-put) (plan-written s (putPlan k v) room t e q))
-
--- ---- remove
-module _ (s k : List ℕ) (room : ℕ) (t : SpeltTree) (e : judge s ≡ accepted t) where
-  pub remove-unlawful : {r : Refusal} → slashAnswer k ≡ Refused r → removeOutcome s k room ≡ stopped r
-  unfolding removeOutcome removePlan due
-  remove-unlawful q = let w = slash-refused k _ q in plan-stopped s (removePlan k) room t e (rw (w .0, w .1))
-
-  module _ (l : lawful k ≡ true) where
-    pub remove-absent : find k (records t) ≡ none → removeOutcome s k room ≡ stopped KeyAbsent
-    unfolding removeOutcome removePlan due isThere
-    remove-absent n = plan-stopped s (removePlan k) room t e (rw (l, n))
-
-    pub remove-written : (v : List ℕ) → find k (records t) ≡ some v → written (remove k (records t)) room ≡ removeOutcome s k room
-    unfolding removeOutcome removePlan due isThere
-    remove-written v n = plan-written s (removePlan k) room t e (rw (l, n))
 
 -- ---- run
 module _ (s first last : List ℕ) (room : ℕ) where

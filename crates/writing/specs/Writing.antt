@@ -5,16 +5,22 @@ use mathlib.Core.List.{List}
 use lib.ListN.{take, drop}
 use Rattle.tree.specs.Record.{Record}
 use Rattle.tree.specs.Judge.{due}
-use Rattle.promises.specs.Outcome.{Outcome, sizes, settle, putOutcome, joinOutcome}
+use Rattle.head.specs.declared.Head.{Head}
+use Rattle.promises.specs.Outcome.{Outcome, sizes, settle}
+use Rattle.promises.specs.Moved.{Moved, settleMoved, putOutcome, joinOutcome}
 
 -- What is written of a result, after a call's own tests: only its sizes are tested.
 unfoldable pub written : List Record → ℕ → Outcome
 written rs room = settle (due (sizes rs room)) rs
 
+-- The same of a call that is lent a head.
+unfoldable pub movedTo : List Record → ℕ → Moved
+movedTo rs room = settleMoved (due (sizes rs room)) rs
+
 -- Put, or join.
-unfoldable pub setOutcome : Bool → List ℕ → List ℕ → List ℕ → ℕ → Outcome
-setOutcome false s k v room = putOutcome s k v room
-setOutcome true s k v room = joinOutcome s k v room
+unfoldable pub setOutcome : Bool → List ℕ → Head → List ℕ → List ℕ → ℕ → Moved
+setOutcome false s h k v room = putOutcome s h k v room
+setOutcome true s h k v room = joinOutcome s h k v room
 
 -- The records at the positions from low to before high.
 abbrev pub recordsFrom : ℕ → ℕ → List Record → List Record

@@ -6,6 +6,7 @@
 
 use crate::common::calls::mijdegen_digest;
 use crate::common::forge::Page;
+use crate::common::heads::{head_for, head_of};
 use crate::common::sets::{set, Kind};
 use independent::Set;
 use std::hint::black_box;
@@ -60,8 +61,8 @@ impl Subject {
             register.extend(page);
             page_ends.push(register.len());
         }
-        assert_eq!(mijdegen::check(&register), Ok(set.len()));
-        assert_eq!(independent::check(&register), Ok(set.len()));
+        assert_eq!(mijdegen::check(&register), Ok(head_of(&set)));
+        assert_eq!(head_for(&register), head_of(&set));
         let mut keys = Vec::new();
         let mut key_ends = Vec::new();
         for key in set.keys() {

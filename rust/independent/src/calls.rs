@@ -1,19 +1,21 @@
 //! The calls, each with the number that is due or with its answer and its whole output.
 //!
-//! An output is zero where the call is refused, and zero after what is written.
+//! An output is zero where the call is refused, and zero after what is written. A head that is lent
+//! stays as it is where the call is refused, and else becomes that of the register written.
 
 use crate::key::{collection_of, is_collection, lawful};
 use crate::number::{
     FIRST_AFTER_LAST, KEY_ABSENT, NO_ROOM, NO_SUCH_SCREEN, TOO_MANY_RECORDS, UNLAWFUL_KEY,
-    VALUE_LENGTH,
+    UNTRUE_HEAD, VALUE_LENGTH,
 };
 use crate::reader::{judge, Below, ReadPage, Reader, Record, Sought};
-use crate::{sha256, table, Digest, Set, Value, LONGEST, MOST_RECORDS, PER_SCREEN};
+use crate::table::table_and_head;
+use crate::{sha256, Digest, Head, Set, Value, LONGEST, MOST_RECORDS, PER_SCREEN};
 use std::collections::HashSet;
 
-/// Gives the count of the register's records.
-pub fn check(register: &[u8]) -> Result<usize, u8> {
-    Ok(judge(register)?.records.len())
+/// Gives the head of the register.
+pub fn check(register: &[u8]) -> Result<Head, u8> {
+    Ok(judge(register)?.head())
 }
 
 /// Gives the set that the register is the register of.
@@ -81,33 +83,55 @@ pub fn run(register: &[u8], first: &[u8], last: &[u8], out: &mut [u8]) -> Result
 }
 
 /// Writes the register in which the key has the value. Gives the table's length.
-pub fn put(register: &[u8], key: &[u8], value: &[u8], out: &mut [u8]) -> Result<usize, u8> {
+pub fn put(
+    register: &[u8],
+    head: &mut Head,
+    key: &[u8],
+    value: &[u8],
+    out: &mut [u8],
+) -> Result<usize, u8> {
     out.fill(0);
-    let set = judge(register)?.set();
-    write(&put_in(set, key, value)?, out)
+    let set = judge_with_head(register, head)?;
+    write_and_move(&put_in(set, key, value)?, head, out)
 }
 
 /// Writes the register without the key's record. Gives the table's length.
-pub fn remove(register: &[u8], key: &[u8], out: &mut [u8]) -> Result<usize, u8> {
+pub fn remove(register: &[u8], head: &mut Head, key: &[u8], out: &mut [u8]) -> Result<usize, u8> {
     out.fill(0);
-    let set = judge(register)?.set();
-    write(&remove_from(set, key)?, out)
+    let set = judge_with_head(register, head)?;
+    write_and_move(&remove_from(set, key)?, head, out)
 }
 
 /// Writes the register with the record, where a present key keeps the greater of two values.
 /// Gives the table's length.
-pub fn join(register: &[u8], key: &[u8], value: &[u8], out: &mut [u8]) -> Result<usize, u8> {
+pub fn join(
+    register: &[u8],
+    head: &mut Head,
+    key: &[u8],
+    value: &[u8],
+    out: &mut [u8],
+) -> Result<usize, u8> {
     out.fill(0);
-    let set = judge(register)?.set();
-    write(&join_in(set, key, value)?, out)
+    let set = judge_with_head(register, head)?;
+    write_and_move(&join_in(set, key, value)?, head, out)
 }
 
-/// Writes the first register with all records of the second joined. Gives the table's length.
-pub fn merge(first: &[u8], second: &[u8], out: &mut [u8]) -> Result<usize, u8> {
+/// Writes the first register with all records of the second joined. Gives the table's length. The
+/// head is that of the first register.
+pub fn merge(first: &[u8], head: &mut Head, second: &[u8], out: &mut [u8]) -> Result<usize, u8> {
     out.fill(0);
-    let first = judge(first)?.set();
+    let first = judge_with_head(first, head)?;
     let second = judge(second)?.set();
-    write(&merge_in(first, &second), out)
+    write_and_move(&merge_in(first, &second), head, out)
+}
+
+/// Judges the register, and then the head that is lent with it. Gives the set.
+fn judge_with_head(register: &[u8], head: &Head) -> Result<Set, u8> {
+    let accepted = judge(register)?;
+    if accepted.head() != *head {
+        return Err(UNTRUE_HEAD);
+    }
+    Ok(accepted.set())
 }
 
 /// Writes the register of all records in opened pages of the second that the first does not hold,
@@ -277,24 +301,31 @@ fn join_record(set: &mut Set, key: &[u8], value: Value) {
     *kept = value.max(*kept);
 }
 
-/// Gives the table of a resulting set for an output of this length, or the number that is due:
-/// 5 for the count, then 13 for the output.
-pub fn result_table(set: &Set, output_length: usize) -> Result<Vec<u8>, u8> {
+/// Gives the table of a resulting set, and its head, for an output of this length; or the number
+/// that is due: 5 for the count, then 13 for the output.
+pub fn result_table(set: &Set, output_length: usize) -> Result<(Vec<u8>, Head), u8> {
     if set.len() > MOST_RECORDS {
         return Err(TOO_MANY_RECORDS);
     }
-    let table = table(set);
+    let (table, head) = table_and_head(set);
     if table.len() > output_length || table.len() > LONGEST {
         return Err(NO_ROOM);
     }
-    Ok(table)
+    Ok((table, head))
 }
 
 /// Writes the table of a resulting set into an output of zeros. Gives the table's length.
 fn write(set: &Set, out: &mut [u8]) -> Result<usize, u8> {
-    let table = result_table(set, out.len())?;
-    out[..table.len()].copy_from_slice(&table);
-    Ok(table.len())
+    let (table, _) = result_table(set, out.len())?;
+    write_bytes(&table, out)
+}
+
+/// Writes the table of a resulting set into an output of zeros, and moves the head to the set's.
+/// Gives the table's length.
+fn write_and_move(set: &Set, head: &mut Head, out: &mut [u8]) -> Result<usize, u8> {
+    let (table, new) = result_table(set, out.len())?;
+    *head = new;
+    write_bytes(&table, out)
 }
 
 /// Writes the key and the value of a record into outputs of zeros. Gives the key's length.

@@ -3,12 +3,13 @@
 //! The tests and benches of `mijdegen` compare the library with this crate, so it shares no code
 //! with the library and does not link it. It is written to be read, not to be fast.
 //!
-//! A refused call gives its number, from 1 to 16; [`number`] names them.
+//! A refused call gives its number, from 1 to 17; [`number`] names them.
 
 #![forbid(unsafe_code)]
 #![warn(missing_docs)]
 
 mod calls;
+mod head;
 mod key;
 pub mod number;
 mod reader;
@@ -20,6 +21,7 @@ pub use calls::{
     at_or_after, before, check, difference, join, join_in, list, lookup, merge, merge_in, path,
     put, put_in, remove, remove_from, result_table, run, run_of, screen, screen_of, set_of, verify,
 };
+pub use head::{head_of, Head};
 pub use key::{lawful, layer, slash, LONGEST_KEY};
 pub use sha256::sha256;
 pub use table::{pages, table, tree_of};

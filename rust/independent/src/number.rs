@@ -35,3 +35,5 @@ pub const FIRST_AFTER_LAST: u8 = 14;
 pub const NO_SUCH_SCREEN: u8 = 15;
 /// The digest of a path's page is not the one due.
 pub const PAGE_NOT_DUE: u8 = 16;
+/// A lent head is untrue of its register.
+pub const UNTRUE_HEAD: u8 = 17;

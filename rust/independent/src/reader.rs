@@ -6,8 +6,8 @@ use crate::number::{
     UNLAWFUL_KEY, WRONG_DIGEST, WRONG_PREFIX, WRONG_TREE,
 };
 use crate::table::{ARRAY, BYTE_STRING, LINK, NULL, NUMBER};
-use crate::tree::{build, Page};
-use crate::{sha256, Digest, Set, Value, LONGEST, MOST_RECORDS};
+use crate::tree::{build, top_layer, Page};
+use crate::{sha256, Digest, Head, Set, Value, LONGEST, MOST_RECORDS};
 
 /// How many pages may follow one another by links, from the root down and itself included.
 const DEEPEST: usize = 129;
@@ -18,9 +18,16 @@ pub(crate) struct Accepted<'a> {
     pub root: ReadPage<'a>,
     /// The records in key order.
     pub records: Vec<Record<'a>>,
+    /// The highest layer of any key, and 0 where there is none.
+    layer: u8,
 }
 
 impl Accepted<'_> {
+    /// Gives the head of the register.
+    pub fn head(&self) -> Head {
+        Head::new(self.records.len(), self.layer, sha256(self.root.bytes))
+    }
+
     /// Gives the set of the records.
     pub fn set(&self) -> Set {
         let records = self.records.iter();
@@ -99,7 +106,12 @@ pub(crate) fn judge(register: &[u8]) -> Result<Accepted<'_>, u8> {
     let mut keys = row.iter().map(|(_, key)| *key);
     due(root.tree(&mut keys) != build(&row), WRONG_TREE)?;
     due(!pages.iter().all(|page| page.digest_holds()), WRONG_DIGEST)?;
-    Ok(Accepted { root, records })
+    let layer = top_layer(&row);
+    Ok(Accepted {
+        root,
+        records,
+        layer,
+    })
 }
 
 /// Says whether each key is greater than the one before it.

@@ -1,8 +1,8 @@
 //! The bytes of pages, and the page table of a set.
 
 use crate::key::layer;
-use crate::tree::{build, Gap, Page};
-use crate::{sha256, Digest, Set, Value};
+use crate::tree::{build, top_layer, Gap, Page};
+use crate::{sha256, Digest, Head, Set, Value};
 
 /// The nine bytes with which each link begins.
 pub(crate) const LINK: [u8; 9] = [0xd8, 0x2a, 0x58, 0x25, 0x00, 0x01, 0x71, 0x12, 0x20];
@@ -29,13 +29,26 @@ pub fn pages(set: &Set) -> Vec<Vec<u8>> {
     pages
 }
 
+/// Gives the page table of the set, and its head.
+pub(crate) fn table_and_head(set: &Set) -> (Vec<u8>, Head) {
+    let row = row_of(set);
+    let mut pages = Vec::new();
+    let digest = add_page(&build(&row), &mut pages);
+    let head = Head::new(set.len(), top_layer(&row), digest);
+    (pages.concat(), head)
+}
+
 /// Builds the tree of the set's records.
 pub fn tree_of(set: &Set) -> Page<(&[u8], &Value)> {
-    let row: Vec<(u8, (&[u8], &Value))> = set
-        .iter()
+    build(&row_of(set))
+}
+
+/// Gives the set's records in key order, each with its key's layer.
+fn row_of(set: &Set) -> Vec<(u8, (&[u8], &Value))> {
+    let records = set.iter();
+    records
         .map(|(key, value)| (layer(key), (key.as_slice(), value)))
-        .collect();
-    build(&row)
+        .collect()
 }
 
 /// Adds the bytes of the page and of all pages below it. Gives the page's digest.

@@ -24,8 +24,12 @@ impl<Item> Page<Item> {
 /// Builds the tree of a row of items in key order, each with its key's layer. The root stands at
 /// the highest layer.
 pub fn build<Item: Copy>(row: &[(u8, Item)]) -> Page<Item> {
-    let highest = row.iter().map(|(layer, _)| *layer).max();
-    page_at(highest.unwrap_or(0), row)
+    page_at(top_layer(row), row)
+}
+
+/// Gives the highest layer of any item, and 0 where there is none.
+pub(crate) fn top_layer<Item>(row: &[(u8, Item)]) -> u8 {
+    row.iter().map(|(layer, _)| *layer).max().unwrap_or(0)
 }
 
 /// Builds the page at this layer for a row without higher layers: the items of the layer are its

@@ -1,8 +1,8 @@
 //! The writing calls and the reading calls against plain work on sets.
 
 use independent::{
-    at_or_after, before, check, difference, join, layer, list, lookup, merge, pages, path, put,
-    remove, run, screen, set_of, sha256, table, tree, tree_of, verify, Digest, Set, Value,
+    at_or_after, before, check, difference, head_of, join, layer, list, lookup, merge, pages, path,
+    put, remove, run, screen, set_of, sha256, table, tree, tree_of, verify, Digest, Set, Value,
 };
 use std::collections::BTreeSet;
 
@@ -52,7 +52,7 @@ fn what_is_written_is_read_back() {
         let set = random.set(60);
         let register = table(&set);
         assert_eq!(set_of(&register), Ok(set.clone()));
-        assert_eq!(check(&register), Ok(set.len()));
+        assert_eq!(check(&register), Ok(head_of(&set)));
         assert_eq!(pages(&set).len(), tree_of(&set).pages());
     }
 }
@@ -288,22 +288,23 @@ fn damaged_paths() {
     }
 }
 
-/// Random calls one after the other, against a set that is changed by hand.
+/// Random calls one after the other, against a set that is changed by hand. The head goes along.
 #[test]
 fn a_list_of_calls() {
     let mut random = Random(3);
     let mut set = Set::new();
     let mut register = table(&set);
+    let mut head = head_of(&set);
     for _ in 0..2_000 {
         let (key, value) = (random.key(), random.value());
         let result = match random.below(4) {
             0 => {
                 set.insert(key.clone(), value);
-                written(|out| put(&register, &key, &value, out))
+                written(|out| put(&register, &mut head, &key, &value, out))
             }
             1 => {
                 let expected = set.remove(&key).ok_or(12);
-                let result = written(|out| remove(&register, &key, out));
+                let result = written(|out| remove(&register, &mut head, &key, out));
                 assert_eq!(result.as_ref().err(), expected.as_ref().err());
                 if result.is_err() {
                     continue;
@@ -315,7 +316,7 @@ fn a_list_of_calls() {
                 if set.get(&key) < Some(&value) {
                     set.insert(key.clone(), value);
                 }
-                written(|out| join(&register, &key, &value, out))
+                written(|out| join(&register, &mut head, &key, &value, out))
             }
             _ => {
                 let second = random.set(5);
@@ -324,11 +325,16 @@ fn a_list_of_calls() {
                         set.insert(key.clone(), *value);
                     }
                 }
-                written(|out| merge(&register, &table(&second), out))
+                written(|out| merge(&register, &mut head, &table(&second), out))
             }
         };
         assert_eq!(result, Ok(table(&set)));
         register = table(&set);
+        // Count, layer and digest by hand.
+        let highest = set.keys().map(|key| layer(key)).max();
+        assert_eq!(head.count as usize, set.len());
+        assert_eq!(head.layer, u32::from(highest.unwrap_or(0)));
+        assert_eq!(head.digest, sha256(&pages(&set)[0]));
     }
     assert!(set.len() > 20);
 }
@@ -339,7 +345,8 @@ fn merge_laws() {
     for _ in 0..200 {
         let [a, b, c] = [0; 3].map(|_| table(&random.set(30)));
         let merged = |first: &[u8], second: &[u8]| {
-            written(|out| merge(first, second, out)).expect("the sets are small")
+            let mut head = check(first).expect("an accepted register");
+            written(|out| merge(first, &mut head, second, out)).expect("the sets are small")
         };
         assert_eq!(merged(&a, &b), merged(&b, &a));
         assert_eq!(merged(&merged(&a, &b), &c), merged(&a, &merged(&b, &c)));

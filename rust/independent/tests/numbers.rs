@@ -1,13 +1,45 @@
 //! The scope's small example of each number, and how numbers go before one another.
 
 use independent::{
-    at_or_after, before, check, difference, join, list, lookup, merge, path, put, remove, run,
-    screen, sha256, slash, table, verify, Set, Value, LONGEST, MOST_RECORDS,
+    at_or_after, before, difference, list, lookup, path, run, screen, sha256, slash, table, verify,
+    Head, Set, Value, LONGEST, MOST_RECORDS,
 };
 
 const EMPTY: [u8; 7] = [0xa2, 0x61, 0x65, 0x80, 0x61, 0x6c, 0xf6];
 
 const VALUE: Value = [0x11; 32];
+
+/// Gives the count of the register's records.
+fn check(register: &[u8]) -> Result<usize, u8> {
+    independent::check(register).map(|head| head.count as usize)
+}
+
+/// Gives the head of the register, or one of zeros where it is refused.
+fn head(register: &[u8]) -> Head {
+    independent::check(register).unwrap_or(Head {
+        count: 0,
+        layer: 0,
+        digest: [0; 32],
+    })
+}
+
+// The writing calls with the register's head.
+
+fn put(register: &[u8], key: &[u8], value: &[u8], out: &mut [u8]) -> Result<usize, u8> {
+    independent::put(register, &mut head(register), key, value, out)
+}
+
+fn join(register: &[u8], key: &[u8], value: &[u8], out: &mut [u8]) -> Result<usize, u8> {
+    independent::join(register, &mut head(register), key, value, out)
+}
+
+fn remove(register: &[u8], key: &[u8], out: &mut [u8]) -> Result<usize, u8> {
+    independent::remove(register, &mut head(register), key, out)
+}
+
+fn merge(first: &[u8], second: &[u8], out: &mut [u8]) -> Result<usize, u8> {
+    independent::merge(first, &mut head(first), second, out)
+}
 
 /// A call that gives a record beside a key.
 type Beside = fn(&[u8], &[u8], &mut [u8], &mut Value) -> Result<usize, u8>;
@@ -486,6 +518,90 @@ fn long_keys_are_compared_whole() {
     assert_eq!(check(&page(&[first_entry, beyond], None)), Err(6));
 }
 
+/// Gives heads that differ from this one in one field each: in every bit of a number or of a byte.
+fn untrue_heads(head: &Head) -> Vec<Head> {
+    let mut untrue = Vec::new();
+    for bit in 0..32 {
+        let (mut count, mut layer) = (*head, *head);
+        count.count ^= 1 << bit;
+        layer.layer ^= 1 << bit;
+        untrue.extend([count, layer]);
+    }
+    for bit in 0..256 {
+        let mut digest = *head;
+        digest.digest[bit / 8] ^= 1 << (bit % 8);
+        untrue.push(digest);
+    }
+    untrue
+}
+
+#[test]
+fn number_17() {
+    let register = two_pages();
+    let right = head(&register);
+    assert_eq!((right.count, right.layer), (2, 1));
+    // The page of `a/b1` has 64 bytes, and the root stands before it.
+    assert_eq!(right.digest, sha256(&register[..register.len() - 64]));
+    let empty = head(&EMPTY);
+    assert_eq!((empty.count, empty.layer), (0, 0));
+    assert_eq!(empty.digest, sha256(&EMPTY));
+
+    for untrue in untrue_heads(&right) {
+        let mut lent = untrue;
+        // Each argument but the register has a fault.
+        let mut out = [0xaa; 10];
+        let refused = [
+            independent::put(&register, &mut lent, b"ab", b"", &mut out),
+            independent::join(&register, &mut lent, b"ab", b"", &mut out),
+            independent::remove(&register, &mut lent, b"ab", &mut out),
+            independent::merge(&register, &mut lent, b"", &mut out),
+        ];
+        assert_eq!(refused, [Err(17); 4]);
+        assert_eq!(out, [0; 10]);
+        assert_eq!(lent, untrue);
+        // The register goes before its head.
+        let refused = independent::put(&register[1..], &mut lent, b"ab", b"", &mut out);
+        assert_eq!(refused, Err(3));
+    }
+}
+
+/// The head after each call, and that it stays where the call is refused.
+#[test]
+fn heads_move() {
+    let (register, mut out) = (two_pages(), [0; 200]);
+    let mut lent = head(&EMPTY);
+    let length = independent::put(&EMPTY, &mut lent, b"a/b1", &VALUE, &mut out);
+    assert_eq!(length, Ok(64));
+    assert_eq!((lent.count, lent.layer), (1, 0));
+    assert_eq!(lent.digest, sha256(&out[..64]));
+
+    let one = out[..64].to_vec();
+    let length = independent::merge(&one, &mut lent, &register, &mut out);
+    assert_eq!(length, Ok(register.len()));
+    assert_eq!(lent, head(&register));
+
+    assert_eq!(
+        independent::remove(&register, &mut lent, b"a/b3", &mut out),
+        Err(12)
+    );
+    assert_eq!(
+        independent::join(&register, &mut lent, b"a/b3", &VALUE, &mut out[..50]),
+        Err(13)
+    );
+    assert_eq!(lent, head(&register));
+    // A value that is not greater changes nothing.
+    let length = independent::join(&register, &mut lent, b"a/b1", &[0; 32], &mut out);
+    assert_eq!(length, Ok(register.len()));
+    assert_eq!(lent, head(&register));
+
+    let length = independent::remove(&register, &mut lent, b"a/b2", &mut out);
+    assert_eq!(length, Ok(64));
+    assert_eq!(lent, head(&one));
+    let length = independent::remove(&one, &mut lent, b"a/b1", &mut out);
+    assert_eq!(length, Ok(7));
+    assert_eq!(lent, head(&EMPTY));
+}
+
 /// The first register is judged through before the second, and both before the arguments.
 #[test]
 fn order_over_two_registers() {
@@ -499,6 +615,10 @@ fn order_over_two_registers() {
     assert_eq!(merge(&tenth, &[], &mut []), Err(10));
     assert_eq!(merge(&[], &tenth, &mut []), Err(2));
     assert_eq!(merge(&EMPTY, &tenth, &mut []), Err(10));
+    // The first register's head stands between the two.
+    let untrue = &mut head(&two_pages());
+    assert_eq!(independent::merge(&tenth, untrue, &[], &mut []), Err(10));
+    assert_eq!(independent::merge(&EMPTY, untrue, &tenth, &mut []), Err(17));
     assert_eq!(difference(&tenth, &[], &mut []), Err(10));
     assert_eq!(difference(&EMPTY, &tenth, &mut []), Err(10));
     assert_eq!(put(&tenth, b"ab", b"", &mut []), Err(10));

@@ -1,6 +1,6 @@
 //! The trees that are published with the format, and the scope's rows to try.
 
-use independent::{check, layer, pages, sha256, table, tree_of, Set, Value};
+use independent::{check, head_of, layer, pages, sha256, table, tree_of, Set, Value};
 
 /// The alphabet of base32, in lower case.
 const BASE_32: &[u8] = b"abcdefghijklmnopqrstuvwxyz234567";
@@ -34,7 +34,15 @@ fn check_published(keys: &[&str], link: &str) {
         .collect();
     assert_eq!(set.len(), keys.len());
     assert_eq!(sha256(&pages(&set)[0]), digest_of_link(link));
-    assert_eq!(check(&table(&set)), Ok(keys.len()));
+    let head = head_of(&set);
+    assert_eq!(head.digest, digest_of_link(link));
+    assert_eq!(head.count as usize, keys.len());
+    assert_eq!(check(&table(&set)), Ok(head));
+}
+
+/// Gives the count of the register's records.
+fn count(register: &[u8]) -> Result<u32, u8> {
+    check(register).map(|head| head.count)
 }
 
 #[test]
@@ -99,7 +107,7 @@ fn one_record_whole() {
     expected.extend([0x61, 0x6c, 0xf6]);
     assert_eq!(expected.len(), 64);
     assert_eq!(table(&set), expected);
-    assert_eq!(check(&expected), Ok(1));
+    assert_eq!(count(&expected), Ok(1));
 }
 
 #[test]
@@ -109,6 +117,7 @@ fn one_record_of_each_layer() {
         let set = set_of_layers(&[wanted]);
         assert_eq!(pages(&set).len(), 1, "layer {wanted}");
         assert_eq!(table(&set).len(), 64 + 5, "layer {wanted}");
+        assert_eq!(head_of(&set).layer, u32::from(wanted));
     }
 }
 
@@ -116,7 +125,7 @@ fn one_record_of_each_layer() {
 fn layers_0_1_0() {
     let set = set_of_layers(&[0, 1, 0]);
     assert_eq!(pages(&set).len(), 3);
-    assert_eq!(check(&table(&set)), Ok(3));
+    assert_eq!(count(&table(&set)), Ok(3));
 }
 
 #[test]
@@ -128,14 +137,14 @@ fn layers_0_2() {
     assert_eq!(pages[1].len(), 47);
     assert_eq!(pages[1][..6], [0xa2, 0x61, 0x65, 0x80, 0x61, 0x6c]);
     assert_eq!(pages[1][15..], sha256(&pages[2]));
-    assert_eq!(check(&pages.concat()), Ok(2));
+    assert_eq!(count(&pages.concat()), Ok(2));
 }
 
 #[test]
 fn layers_1_1() {
     let set = set_of_layers(&[1, 1]);
     assert_eq!(pages(&set).len(), 1);
-    assert_eq!(check(&table(&set)), Ok(2));
+    assert_eq!(count(&table(&set)), Ok(2));
 }
 
 /// `a/b1` has layer 0 and `a/b2` layer 1, so that they never stand in one page. Two keys of one
@@ -159,5 +168,5 @@ fn two_keys_that_share_three_bytes() {
     // The second entry begins behind 4 bytes and the first entry's 57: remainder 1, prefix 3.
     assert_eq!(table[61..65], [0xa4, 0x61, 0x6b, 0x41]);
     assert_eq!(table[66..69], [0x61, 0x70, 0x03]);
-    assert_eq!(check(&table), Ok(2));
+    assert_eq!(count(&table), Ok(2));
 }

@@ -2,13 +2,16 @@
 //! list with the crate `independent`.
 
 use super::forge::{Page, EMPTY};
+use super::heads::{in_library, Heads, SurroundedHead, UNTRUE, ZEROS};
 use super::neighbours::{expect_record, Neighbour, NEIGHBOURS};
 use super::paths::{compare_verify, expect_path};
 use super::sets::{collection_of, greatest_key, least_key, screens_of};
-use super::writes::{expect_refusal, expect_table, expect_table_and, Call};
+use super::writes::{
+    expect_refusal, expect_refusal_with, expect_table, expect_table_and, expect_table_with, Call,
+};
 use super::{hexadecimal, Random};
 use independent::{sha256, table};
-use mijdegen::{check, list, lookup, lookup_place, slash, split, Listed, Refusal, LONGEST};
+use mijdegen::{check, list, lookup, lookup_place, slash, split, Head, Listed, Refusal, LONGEST};
 use std::fmt::Debug;
 
 pub use super::c::*;
@@ -58,9 +61,25 @@ pub fn raw_slash(key: &mut [u8]) -> u64 {
     raw_of_one(mijdegen_slash, key)
 }
 
-/// Gives the answer of the C function, after a check that the register stayed as it was.
-pub fn raw_check(register: &mut [u8]) -> u64 {
-    raw_of_one(mijdegen_check, register)
+/// Calls the C function with a head that is not zero inside a longer buffer. Checks that the bytes
+/// around it and the register stay as they were. Gives the answer and the head.
+pub fn raw_check(register: &mut [u8]) -> (u64, Head) {
+    let before = register.to_vec();
+    let mut head = SurroundedHead::new(&UNTRUE, register.len());
+    // The pointer to the register comes from a mutable reference, so that a write to it would be
+    // seen below.
+    // SAFETY: The pointer and the length are of one slice, and the head is in a buffer of its own.
+    let answer = unsafe {
+        let start = register.as_mut_ptr().cast_const();
+        mijdegen_check(start, register.len(), head.start())
+    };
+    assert!(register == before, "the register was changed");
+    (answer, head.contents())
+}
+
+/// Gives the count of the register's records.
+pub fn count_of(register: &[u8]) -> Result<usize, Refusal> {
+    check(register).map(|head| head.count as usize)
 }
 
 /// Calls the C function and checks that the inputs stay as they were. Gives the answer.
@@ -161,11 +180,7 @@ impl Surrounded {
 /// at verify with the same bytes. Gives the number that is due on the register, or 0 where it is
 /// accepted.
 pub fn number_of(register: &[u8]) -> u8 {
-    let expected = independent::check(register);
-    let found = check(register).map_err(Refusal::number);
-    assert_eq!(found, expected, "check of {}", shown(register));
-    let found = raw_check(&mut register.to_vec());
-    assert_eq!(found, answer(expected), "C check of {}", shown(register));
+    let expected = compare_check(register);
     // One page is a path by itself, and of several pages the first is not the one due.
     let _ = compare_verify(register, b"a/b1", &sha256(register));
 
@@ -174,17 +189,31 @@ pub fn number_of(register: &[u8]) -> u8 {
             compare_refused(register, number);
             number
         }
-        Ok(count) => {
-            compare_accepted(register, count);
+        Ok(head) => {
+            compare_accepted(register, head);
             0
         }
     }
 }
 
+/// Compares check with the independent crate, by the safe and by the C function: the answer, and
+/// every byte of the head, which is zero on refusal. Gives the head.
+pub fn compare_check(register: &[u8]) -> Result<Head, u8> {
+    let expected = independent::check(register).map(in_library);
+    let found = check(register).map_err(Refusal::number);
+    assert_eq!(found, expected, "check of {}", shown(register));
+    let (found, head) = raw_check(&mut register.to_vec());
+    let answer = answer(expected.map(|_| 0));
+    assert_eq!(found, answer, "C check of {}", shown(register));
+    let after = expected.unwrap_or(ZEROS);
+    assert_eq!(head, after, "head by C check of {}", shown(register));
+    expected
+}
+
 /// All calls refuse the register with the number, whatever else they are given, and the outputs
 /// are zero.
 fn compare_refused(register: &[u8], number: u8) {
-    let refusal = Refusal::from_number(number).expect("a number from 1 to 16");
+    let refusal = Refusal::from_number(number).expect("a number from 1 to 17");
     assert_eq!(lookup(register, b"a/b1"), Err(refusal), "a lawful key");
     assert_eq!(lookup(register, b"ab"), Err(refusal), "an unlawful key");
     let mut out = [0xaa; 5];
@@ -199,7 +228,8 @@ fn compare_refused(register: &[u8], number: u8) {
         assert_eq!(raw_list(&mut lent, n, length), zeros, "record {n}");
     }
 
-    // The other calls take turns, and each is handed another fault that comes later.
+    // The other calls take turns, and each is handed another fault that comes later. A head is lent
+    // that is untrue, and that comes later too.
     let turn = NEIGHBOURS[register.len() % 2];
     let key: &[u8] = match register.len() / 2 % 2 {
         0 => b"a/b1",
@@ -217,7 +247,7 @@ fn compare_refused(register: &[u8], number: u8) {
         Call::path(b"ab"),
     ];
     let turn = &calls[register.len() % calls.len()];
-    expect_refusal(register, turn, register.len() % 100, number);
+    expect_refusal_with(register, UNTRUE, turn, register.len() % 100, number);
     // As the second register it is judged behind a first one that is accepted.
     let second = match register.len() % 2 {
         0 => Call::merge(register),
@@ -229,12 +259,14 @@ fn compare_refused(register: &[u8], number: u8) {
 /// The last record is found and listed, alone and beside the one before it, in all but large
 /// registers also the first and the middle one; and the register is the one of its set and the one
 /// that the library writes. By its path the last key is present.
-fn compare_accepted(register: &[u8], count: usize) {
+fn compare_accepted(register: &[u8], head: Head) {
     let set = independent::set_of(register).expect("the register is accepted");
-    assert_eq!(set.len(), count);
+    let count = set.len();
+    assert_eq!(head.count as usize, count);
     assert!(table(&set) == register, "{}", shown(register));
     let root = Page::of_set(&set);
     let root = root.written();
+    assert_eq!(head.digest, root.digest);
 
     let mut lent = register.to_vec();
     let records: Vec<_> = set.iter().collect();
@@ -264,8 +296,10 @@ fn compare_accepted(register: &[u8], count: usize) {
     // The run of all keys is written anew.
     let all = Call::run(&least_key(), &greatest_key());
     expect_table(register, &all, register.len(), register);
-    // Merged with itself it is written anew, and it lacks nothing of itself: no page is opened.
-    expect_table(register, &Call::merge(register), register.len(), register);
+    // Merged with itself it is written anew, and its head stays. It lacks nothing of itself: no page
+    // is opened.
+    let (heads, merge) = (Heads::stay(head), Call::merge(register));
+    expect_table_with(register, &heads, &merge, register.len(), register);
     expect_table(register, &Call::difference(register), 7, &EMPTY);
     // The last screen of the last collection.
     let last_key = records.last().map_or(&b"a/b1"[..], |(key, _)| key);

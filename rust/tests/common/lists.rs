@@ -1,13 +1,19 @@
 //! Lists of writing calls, and the plain map that says beforehand what each call answers.
 //!
-//! The map's state is a set of records. It is fed each call with what the call is handed and the
-//! length of the output, and nothing that the library answered or wrote.
+//! The map's state is a set of records. It is fed each call with what the call is handed, the head
+//! that is lent and the length of the output, and nothing that the library answered or wrote. It
+//! judges the head against its own set.
 
 use super::forge::{faulty_registers, EMPTY};
+use super::heads::{draw_untrue, head_of, in_library, Heads};
 use super::sets::{self, keys_near, part, set, unlawful_keys, Kind};
 use super::writes::{expect_outcome, Call};
 use super::Random;
 use independent::{result_table, table, Set, LONGEST};
+use mijdegen::Head;
+
+/// How often each number was answered, number 0 standing for the calls that were done.
+pub type Counts = [usize; 18];
 
 /// A list of calls that starts from the register of a set.
 pub struct List {
@@ -17,32 +23,41 @@ pub struct List {
     pub end: Set,
 }
 
-/// One call of a list, with the map's answer and the whole output.
+/// One call of a list, with the map's answer, the whole output and the heads.
 struct Step {
     call: Call,
     expected: Result<usize, u8>,
     output: Vec<u8>,
+    heads: Heads,
 }
 
+/// What the map makes of a call: the next set, with its table and its head.
+type Next = (Set, Vec<u8>, Head);
+
 impl List {
-    /// Draws a list of so many calls and asks the map.
+    /// Draws a list of so many calls and asks the map. Most calls are lent the head of the register
+    /// that is held. One in ten is lent another: often the one before the last call that was done.
     pub fn draw(random: &mut Random, source: &Source, start: &Set, count: usize) -> List {
         let mut set = start.clone();
+        let mut head = head_of(&set);
+        let mut earlier = head;
         let mut steps = Vec::with_capacity(count);
         for _ in 0..count {
             let call = source.call(random, &set);
-            let changed = call.change(set.clone()).and_then(|changed| {
-                let table = result_table(&changed, LONGEST)?;
-                Ok((changed, table))
-            });
-            let (expected, output) = match changed {
+            let lent = match random.below(10) {
+                0 => draw_untrue(random, &head, &earlier),
+                _ => head,
+            };
+            let mut heads = Heads::stay(lent);
+            let (expected, output) = match next(&call, &lent, &set) {
                 Err(number) => (Err(number), vec![0; random.below(200)]),
-                Ok((changed, table)) => {
+                Ok((changed, table, after)) => {
                     let mut output = vec![0; out_length(random, table.len())];
                     match output.get_mut(..table.len()) {
                         Some(start) => {
                             start.copy_from_slice(&table);
-                            set = changed;
+                            (set, earlier, head) = (changed, head, after);
+                            heads.after = after;
                             (Ok(table.len()), output)
                         }
                         None => (Err(13), output),
@@ -53,6 +68,7 @@ impl List {
                 call,
                 expected,
                 output,
+                heads,
             });
         }
         List {
@@ -63,24 +79,34 @@ impl List {
     }
 
     /// Runs the list with the library, by the safe and by the C functions, and compares each
-    /// answer and each output with the map's. Gives how often each number was answered, number 0
-    /// standing for the calls that were done.
-    pub fn run(&self) -> [usize; 14] {
-        let mut counts = [0; 14];
+    /// answer, each output and each head with the map's.
+    pub fn run(&self) -> Counts {
+        let mut counts = [0; 18];
         let mut held = table(&self.start);
         for step in &self.steps {
-            let mut out = expect_outcome(&held, &step.call, step.expected, &step.output);
+            let (heads, expected) = (&step.heads, step.expected);
+            let mut out = expect_outcome(&held, heads, &step.call, expected, &step.output);
             // The table that was written is held; after a refused call the register stays held.
-            if let Ok(length) = step.expected {
+            if let Ok(length) = expected {
                 out.truncate(length);
                 held = out;
             }
-            counts[usize::from(step.expected.err().unwrap_or(0))] += 1;
+            counts[usize::from(expected.err().unwrap_or(0))] += 1;
         }
         assert!(held == table(&self.end), "after the list");
-        assert_eq!(mijdegen::check(&held), Ok(self.end.len()));
+        assert_eq!(mijdegen::check(&held), Ok(head_of(&self.end)));
         counts
     }
+}
+
+/// Asks the map what an output with room would get, or which number is due.
+fn next(call: &Call, lent: &Head, set: &Set) -> Result<Next, u8> {
+    if *lent != head_of(set) {
+        return Err(17);
+    }
+    let changed = call.change(set.clone())?;
+    let (table, head) = result_table(&changed, LONGEST)?;
+    Ok((changed, table, in_library(head)))
 }
 
 /// Draws the length of the output for a table of this length: just enough, more, one byte too

@@ -7,12 +7,16 @@
 mod c;
 pub mod calls;
 pub mod forge;
+pub mod heads;
 pub mod lists;
 pub mod neighbours;
 pub mod paths;
 pub mod repository;
 pub mod sets;
 pub mod writes;
+
+// The module `c` takes it from here, as it does from the crate.
+use mijdegen::Head;
 
 /// A xorshift generator of 64 bits. A fixed seed gives the same cases in every run.
 pub struct Random(u64);

@@ -2,14 +2,19 @@
 //!
 //! A call that is done gives the value of its answer: the length of the table, or of the path, and
 //! besides 2^24 times the number of opened pages, for difference, or of screens, for screen.
+//!
+//! Put, join, remove and merge are lent a head. Where a test says nothing of it, it is that of the
+//! register, and the head after the call is compared too: that of the register written, or the one
+//! that was lent where the call is refused. The other calls leave it alone.
 
 use super::calls::{
     answer, mijdegen_difference, mijdegen_join, mijdegen_merge, mijdegen_path, mijdegen_put,
     mijdegen_remove, mijdegen_run, mijdegen_screen, shown, Surrounded,
 };
 use super::forge::Page;
+use super::heads::{head_for, in_independent, in_library, Heads, SurroundedHead, UNTRUE};
 use independent::{lawful, result_table, Set, LONGEST};
-use mijdegen::Refusal;
+use mijdegen::{Head, Refusal};
 use std::fmt;
 
 /// A writing call with what it is handed besides the register held and the output.
@@ -85,14 +90,31 @@ impl Call {
         Call::Path { key: key.to_vec() }
     }
 
+    /// Says whether the call is lent a head.
+    pub fn takes_head(&self) -> bool {
+        match self {
+            Call::Put { .. } | Call::Join { .. } | Call::Remove { .. } | Call::Merge { .. } => true,
+            Call::Run { .. } | Call::Difference { .. } => false,
+            Call::Screen { .. } | Call::Path { .. } => false,
+        }
+    }
+
+    /// Gives the register's head, or any where the call takes none or the register has none.
+    pub fn head_for(&self, register: &[u8]) -> Head {
+        match self.takes_head() {
+            true => head_for(register),
+            false => UNTRUE,
+        }
+    }
+
     /// Calls the safe function.
-    pub fn safe(&self, register: &[u8], out: &mut [u8]) -> Result<usize, u8> {
+    pub fn safe(&self, register: &[u8], head: &mut Head, out: &mut [u8]) -> Result<usize, u8> {
         let result = match self {
             Call::Run { first, last } => mijdegen::run(register, first..=last, out),
-            Call::Put { key, value } => mijdegen::put(register, key, value, out),
-            Call::Join { key, value } => mijdegen::join(register, key, value, out),
-            Call::Remove { key } => mijdegen::remove(register, key, out),
-            Call::Merge { second } => mijdegen::merge(register, second, out),
+            Call::Put { key, value } => mijdegen::put(register, head, key, value, out),
+            Call::Join { key, value } => mijdegen::join(register, head, key, value, out),
+            Call::Remove { key } => mijdegen::remove(register, head, key, out),
+            Call::Merge { second } => mijdegen::merge(register, head, second, out),
             Call::Difference { second } => mijdegen::difference(register, second, out)
                 .map(|found| value_of_two(found.length, found.opened)),
             Call::Screen { collection, n } => {
@@ -105,20 +127,22 @@ impl Call {
         result.map_err(Refusal::number)
     }
 
-    /// Calls the C function with an output of so many bytes 0xAA inside a longer buffer. Checks
-    /// that the bytes around the output and all inputs stay as they were. Gives the answer and
-    /// the output.
-    pub fn raw(&self, register: &[u8], out_length: usize) -> (u64, Vec<u8>) {
+    /// Calls the C function with an output of so many bytes 0xAA inside a longer buffer, and the
+    /// head inside another. Checks that the bytes around both and all inputs stay as they were.
+    /// Gives the answer, the output and the head after the call.
+    pub fn raw(&self, register: &[u8], head: &Head, out_length: usize) -> (u64, Vec<u8>, Head) {
         // The pointers come from mutable references, so that a write would be seen below.
         fn lent(bytes: &mut [u8]) -> *const u8 {
             bytes.as_mut_ptr().cast_const()
         }
         let mut out = Surrounded::new(out_length);
+        let mut surrounded = SurroundedHead::new(head, register.len() + out_length);
+        let head = surrounded.start();
         let mut copy = register.to_vec();
         let mut handed = self.clone();
         let (reg, reg_len) = (lent(&mut copy), copy.len());
-        // SAFETY: Each pointer has as many bytes as the library is told, and the output is in a
-        // buffer of its own.
+        // SAFETY: Each pointer has as many bytes as the library is told, and the output and the
+        // head are in buffers of their own.
         let answer = unsafe {
             match &mut handed {
                 Call::Run { first, last } => mijdegen_run(
@@ -134,6 +158,7 @@ impl Call {
                 Call::Put { key, value } => mijdegen_put(
                     reg,
                     reg_len,
+                    head,
                     lent(key),
                     key.len(),
                     lent(value),
@@ -144,6 +169,7 @@ impl Call {
                 Call::Join { key, value } => mijdegen_join(
                     reg,
                     reg_len,
+                    head,
                     lent(key),
                     key.len(),
                     lent(value),
@@ -151,12 +177,19 @@ impl Call {
                     out.start(),
                     out_length,
                 ),
-                Call::Remove { key } => {
-                    mijdegen_remove(reg, reg_len, lent(key), key.len(), out.start(), out_length)
-                }
+                Call::Remove { key } => mijdegen_remove(
+                    reg,
+                    reg_len,
+                    head,
+                    lent(key),
+                    key.len(),
+                    out.start(),
+                    out_length,
+                ),
                 Call::Merge { second } => mijdegen_merge(
                     reg,
                     reg_len,
+                    head,
                     lent(second),
                     second.len(),
                     out.start(),
@@ -186,23 +219,31 @@ impl Call {
         };
         assert!(copy == register, "the register was changed by {self:?}");
         assert!(handed == *self, "an argument was changed by {self:?}");
-        (answer, out.contents("the output"))
+        (answer, out.contents("the output"), surrounded.contents())
     }
 
     /// Calls the function of the independent crate.
-    pub fn independent(&self, register: &[u8], out: &mut [u8]) -> Result<usize, u8> {
-        match self {
+    pub fn independent(
+        &self,
+        register: &[u8],
+        head: &mut Head,
+        out: &mut [u8],
+    ) -> Result<usize, u8> {
+        let mut moved = in_independent(head);
+        let result = match self {
             Call::Run { first, last } => independent::run(register, first, last, out),
-            Call::Put { key, value } => independent::put(register, key, value, out),
-            Call::Join { key, value } => independent::join(register, key, value, out),
-            Call::Remove { key } => independent::remove(register, key, out),
-            Call::Merge { second } => independent::merge(register, second, out),
+            Call::Put { key, value } => independent::put(register, &mut moved, key, value, out),
+            Call::Join { key, value } => independent::join(register, &mut moved, key, value, out),
+            Call::Remove { key } => independent::remove(register, &mut moved, key, out),
+            Call::Merge { second } => independent::merge(register, &mut moved, second, out),
             Call::Difference { second } => independent::difference(register, second, out)
                 .map(|(length, opened)| value_of_two(length, opened)),
             Call::Screen { collection, n } => independent::screen(register, collection, *n, out)
                 .map(|(length, screens)| value_of_two(length, screens)),
             Call::Path { key } => independent::path(register, key, out),
-        }
+        };
+        *head = in_library(moved);
+        result
     }
 
     /// Does to a plain set what the call does to its register, or gives the number that is due on
@@ -239,7 +280,7 @@ impl Call {
                 Ok(Page::of_set(&set).written().path(key).concat())
             }
             Call::Path { .. } => Err(7),
-            _ => result_table(&self.change(set)?, LONGEST),
+            _ => result_table(&self.change(set)?, LONGEST).map(|(table, _)| table),
         }
     }
 }
@@ -264,31 +305,51 @@ impl fmt::Debug for Call {
     }
 }
 
-/// Expects the answer and the whole output, by the safe and by the C function. Gives what the
-/// library wrote.
+/// Expects the answer, the whole output and the head after the call, by the safe and by the C
+/// function. Gives what the library wrote.
 pub fn expect_outcome(
     register: &[u8],
+    heads: &Heads,
     call: &Call,
     expected: Result<usize, u8>,
     output: &[u8],
 ) -> Vec<u8> {
     let length = output.len();
-    let told = || format!("{call:?}, output {length}, on {}", shown(register));
+    let told = || {
+        let (lent, on) = (heads.lent, shown(register));
+        format!("{call:?}, output {length}, head of {lent}, on {on}")
+    };
 
-    let (found, out) = call.raw(register, length);
+    let (found, out, head) = call.raw(register, &heads.lent, length);
     assert_eq!(found, answer(expected), "C function: {}", told());
     assert!(out == output, "output of the C function: {}", told());
+    assert_eq!(head, heads.after, "head by the C function: {}", told());
 
-    let mut out = vec![0xaa; length];
-    let found = call.safe(register, &mut out);
+    let (mut out, mut head) = (vec![0xaa; length], heads.lent);
+    let found = call.safe(register, &mut head, &mut out);
     assert_eq!(found, expected, "{}", told());
     assert!(out == output, "output: {}", told());
+    assert_eq!(head, heads.after, "head: {}", told());
     out
 }
 
 /// Expects the table, or the path, and zeros after it, in an output of this length.
 pub fn expect_table(register: &[u8], call: &Call, out_length: usize, table: &[u8]) {
     expect_table_and(register, call, out_length, table, 0);
+}
+
+/// Expects the table and zeros after it as `expect_table` does, where the head that is lent and the
+/// one that is left are known.
+pub fn expect_table_with(
+    register: &[u8],
+    heads: &Heads,
+    call: &Call,
+    out_length: usize,
+    table: &[u8],
+) {
+    let mut output = table.to_vec();
+    output.resize(out_length, 0);
+    expect_outcome(register, heads, call, Ok(table.len()), &output);
 }
 
 /// Expects the table and zeros after it, in an output of this length, and the second number of the
@@ -303,20 +364,47 @@ pub fn expect_table_and(
     let mut output = table.to_vec();
     output.resize(out_length, 0);
     let value = value_of_two(table.len(), second);
-    expect_outcome(register, call, Ok(value), &output);
+    let heads = Heads {
+        lent: call.head_for(register),
+        after: call.head_for(table),
+    };
+    expect_outcome(register, &heads, call, Ok(value), &output);
 }
 
 /// Expects the number and zeros alone, in an output of this length.
 pub fn expect_refusal(register: &[u8], call: &Call, out_length: usize, number: u8) {
-    expect_outcome(register, call, Err(number), &vec![0; out_length]);
+    expect_refusal_with(register, call.head_for(register), call, out_length, number);
 }
 
-/// Compares the call with the independent crate for an output of this length: the answer and
-/// every byte of the output, by the safe and by the C function. Gives the value of the answer.
+/// Expects the number and zeros alone, in an output of this length, where this head is lent.
+pub fn expect_refusal_with(
+    register: &[u8],
+    head: Head,
+    call: &Call,
+    out_length: usize,
+    number: u8,
+) {
+    let output = vec![0; out_length];
+    expect_outcome(register, &Heads::stay(head), call, Err(number), &output);
+}
+
+/// Compares the call with the independent crate for an output of this length: the answer, every
+/// byte of the output and the head, by the safe and by the C function. Gives the value of the
+/// answer.
 pub fn compare_call(register: &[u8], call: &Call, out_length: usize) -> Result<usize, u8> {
-    let mut output = vec![0x55; out_length];
-    let expected = call.independent(register, &mut output);
-    expect_outcome(register, call, expected, &output);
+    compare_call_with(register, call.head_for(register), call, out_length)
+}
+
+/// Compares the call with the independent crate as `compare_call` does, where this head is lent.
+pub fn compare_call_with(
+    register: &[u8],
+    head: Head,
+    call: &Call,
+    out_length: usize,
+) -> Result<usize, u8> {
+    let (mut heads, mut output) = (Heads::stay(head), vec![0x55; out_length]);
+    let expected = call.independent(register, &mut heads.after, &mut output);
+    expect_outcome(register, &heads, call, expected, &output);
     expected
 }
 
@@ -324,30 +412,35 @@ pub fn compare_call(register: &[u8], call: &Call, out_length: usize) -> Result<u
 /// one byte too short and empty. Gives the table, or the path.
 pub fn compare_lengths(register: &[u8], call: &Call) -> Result<Vec<u8>, u8> {
     let table = independent::set_of(register).and_then(|set| call.result(set));
+    let lent = call.head_for(register);
     match &table {
         Ok(table) => {
             let length = table.len();
             for out_length in [length, length + 1 + length % 90] {
-                let mut output = vec![0x55; out_length];
-                let expected = call.independent(register, &mut output);
+                let (mut heads, mut output) = (Heads::stay(lent), vec![0x55; out_length]);
+                let expected = call.independent(register, &mut heads.after, &mut output);
                 assert_eq!(expected.map(length_in), Ok(length));
                 assert!(output[..length] == *table, "{call:?}");
-                expect_outcome(register, call, expected, &output);
+                expect_outcome(register, &heads, call, expected, &output);
             }
             for short in [length - 1, 0] {
-                expect_refusal(register, call, short, 13);
+                expect_refusal_with(register, lent, call, short, 13);
             }
         }
         Err(number) => {
-            assert_eq!(compare_call(register, call, 300), Err(*number));
-            expect_refusal(register, call, 0, *number);
+            let found = compare_call_with(register, lent, call, 300);
+            assert_eq!(found, Err(*number));
+            expect_refusal_with(register, lent, call, 0, *number);
         }
     }
     table
 }
 
-/// Calls the safe function with an output that has room. Gives the table, or the path.
+/// Calls the safe function with an output that has room, and with the head that check gives. Gives
+/// the table, or the path. The head is then what check gives for the table.
 pub fn written(register: &[u8], call: &Call) -> Vec<u8> {
+    let accepted = |register: &[u8]| mijdegen::check(register).expect("an accepted register");
+    let mut head = accepted(register);
     // Most results have room where the inputs would stand twice, and the others are tried again.
     let handed = match call {
         Call::Merge { second } | Call::Difference { second } => second.len(),
@@ -356,11 +449,14 @@ pub fn written(register: &[u8], call: &Call) -> Vec<u8> {
     };
     for room in [2 * (register.len() + handed) + 1_000, LONGEST] {
         let mut out = vec![0xaa; room];
-        match call.safe(register, &mut out) {
+        match call.safe(register, &mut head, &mut out) {
             Ok(value) => {
                 let length = length_in(value);
                 assert!(out[length..].iter().all(|byte| *byte == 0), "{call:?}");
                 out.truncate(length);
+                if call.takes_head() {
+                    assert_eq!(head, accepted(&out), "head after {call:?}");
+                }
                 return out;
             }
             Err(number) => assert_eq!(number, 13, "{call:?} on {}", shown(register)),

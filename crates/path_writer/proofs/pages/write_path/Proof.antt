@@ -5,9 +5,10 @@ use lib.ListN.{length}
 use borrow.Author.Needs.{needs}
 use borrow.Author.Tests.{not-true, not-false}
 use Rattle.bytestring.proofs.Tools.{bytes-of}
+use Rattle.digests.proofs.ChainReads.{row-noted}
 use Rattle.digests.proofs.RowLoops.{chain-fits}
 use Rattle.writer.proofs.Overwriting.{part-length}
-use Rattle.path_writer.proofs.Copying.{noted, CopiedTo, none-copied, all-copied, chain-passed, chain-copied, chain-lacks}
+use Rattle.path_writer.proofs.Copying.{CopiedTo, none-copied, all-copied, chain-passed, chain-copied, chain-lacks}
 use Rattle.path_writer.proofs.Outcomes.{path-fits, path-lacks}
 use Rattle.path_writer.proofs.Verdicts.{register-short, covering-short, empty-says, chains-say}
 use Rattle.path_writer.proofs.pages.write_path.Statement.{statement}
@@ -42,7 +43,7 @@ loop-again c =
 chain-pages-requires : tie.Need-chain-pages-requires Inv-loop μ-loop
 chain-pages-requires c κs =
     let a = c .before .before .before .before .before .before .before .before .before .before .args in
-    chain-fits (a .register .now) (a .chains .now) (a .n) (c .before .before .before .before .before .loop .i) (noted (c .before .before .before .before .before .before .before .before .before .before .pre .0)) (c .before .before .before .before .loop-test .taken)
+    chain-fits (a .register .now) (a .chains .now) (a .n) (c .before .before .before .before .before .loop .i) (row-noted (c .before .before .before .before .before .before .before .before .before .before .pre .0)) (c .before .before .before .before .loop-test .taken)
 
 returns-2 : tie.Need-returns-2 Inv-loop μ-loop
 returns-2 c =

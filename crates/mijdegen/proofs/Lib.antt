@@ -1,0 +1,4 @@
+pub mod Lent
+pub mod LentMade
+pub mod LentTwo
+pub mod LentThree
