@@ -3,6 +3,7 @@ use Prim.Native.Nat.{ℕ}
 use mathlib.Core.Path.{_≡_, refl, sym, ap, subst}
 use mathlib.Core.Bool.{true, false}
 use mathlib.Core.List.{List, [], map}
+use lib.ListN.{length}
 use lib.Dec.{eqb}
 use borrow.Author.Tests.{eqb-true, ne-eqb, eq-eqb}
 use Rattle.bytestring.specs.Bytes.{Bytes, equal}
@@ -10,12 +11,12 @@ use Rattle.bytestring.proofs.Equal.{equal-true, equal-refl}
 use Rattle.bytestring.proofs.Tools.{All, and-inv, and-both}
 use Rattle.fips180.specs.Hash.{sha256}
 use Rattle.key.specs.Layer.{layerOf}
-use Rattle.tree.specs.Tree.{page, Entries, end, entry, topLayer}
+use Rattle.tree.specs.Tree.{page, Entries, end, entry, items, topLayer}
 use Rattle.tree.specs.Record.{Record, Spelt, recordOf, keyed, keyedFrom, records, placed}
 use Rattle.tree.specs.Table.{SpeltTree, rawEntries, rawPage, bytesOfPage, digestOf, treeOfSet}
 use Rattle.tree.specs.Judge.{accepted, judge}
 use Rattle.tree.specs.OnePage.{recordsIn}
-use Rattle.tree.proofs.Laws.{accepted-table, keyed-spelt, Layered, LayeredFrom, treeOf-layered}
+use Rattle.tree.proofs.Laws.{accepted-table, keyed-spelt, keyed-items, Layered, LayeredFrom, treeOf-layered}
 use Rattle.tree.proofs.Shape.{layerOfRecord}
 use Rattle.head.specs.declared.Head.{Head}
 use Rattle.head.specs.Head.{headOf, sameHead}
@@ -76,3 +77,8 @@ root-layer s b t j =
 pub empty-layer : headOf [] .layer ≡ 0
 unfolding headOf topLayer
 empty-layer = refl
+
+-- the count is that of the entries in all pages
+pub entries-counted : (t : SpeltTree) → headOf (records t) .count ≡ length (items t)
+unfolding headOf
+entries-counted t = keyed-items t

@@ -18,6 +18,6 @@ headOf rs = record { count = length rs; layer = topLayer (map placed rs); digest
 unfoldable pub sameHead : Head → Head → Bool
 sameHead h g = eqb (h .count) (g .count) && (eqb (h .layer) (g .layer) && equal (h .digest) (g .digest))
 
--- The head of zeros.
+-- The head of zeros, which check gives where it refuses.
 abbrev pub zeroHead : Head
 zeroHead = record { count = 0; layer = 0; digest = zeros digestLength }

@@ -6,18 +6,18 @@ use mathlib.Core.List.{List, [], _∷_, map, map-map, map-append}
 use native.Mathlib.Numerals.{add-one}
 use native.Mathlib.Nat.{add-assoc}
 use native.Mathlib.Omega.{arith}
-use lib.ListN.{length, getD, length-map, length-append}
+use lib.ListN.{length, getD, length-map}
 use lib.Dec.{eqb}
 use borrow.Author.Tests.{eqb-true, eq-eqb}
 use Rattle.bytestring.proofs.Tools.{All, and-inv}
 use Rattle.key.specs.Key.{less, lawful}
 use Rattle.key.specs.Layer.{layerOf}
-use Rattle.tree.specs.Tree.{page, Gap, empty, under, Entries, end, entry, items, itemsUnder, itemsFrom}
+use Rattle.tree.specs.Tree.{page, Gap, empty, under, Entries, end, entry, items, itemsUnder}
 use Rattle.tree.specs.Record.{Record, Spelt, recordOf, keyed, keyedUnder, keyedFrom, records}
 use Rattle.tree.specs.Table.{SpeltTree, bytesOfPage, tableUnder}
 use Rattle.tree.specs.Judge.{allLawful, rising}
 use Rattle.tree.specs.Place.{lengthOfEntry, firstEntry, places, placesUnder, placesFrom}
-use Rattle.tree.proofs.Laws.{depths, depthsUnder, depthsFrom, items-depths, Level, layerOfRecord}
+use Rattle.tree.proofs.Laws.{depths, depthsUnder, depthsFrom, items-depths, keyed-items, Level, layerOfRecord}
 use Rattle.index.specs.Slot.{Slot, slots, slotsUnder, slotsFrom, keyOf, lawfulSlots, risingAfter, levelSlots}
 
 -- ---- depths, records, places
@@ -54,23 +54,6 @@ mutual
 
 pub slots-records : (d at : ℕ) (t : SpeltTree) → map (λ x. x .item) (slots d at t) ≡ records t
 slots-records d at t = sym (map-map (λ (z : ℕ × Record). z .1) depthOf (slots d at t)) ∙ rw (slots-depths d at t) (items-depths d (keyed t))
-
-mutual
-  unfolding keyed items
-
-  keyed-items : (t : SpeltTree) → length (items (keyed t)) ≡ length (items t)
-  keyed-items (page g es) =
-      rw (length-append (itemsUnder (keyedUnder g)) (itemsFrom (keyedFrom [] es)), length-append (itemsUnder g) (itemsFrom es), keyed-items-under g, keyed-items-from [] es)
-
-  keyed-items-under : (g : Gap Spelt (List ℕ)) → length (itemsUnder (keyedUnder g)) ≡ length (itemsUnder g)
-  keyed-items-under empty = refl
-  keyed-items-under (under _ p) = keyed-items p
-
-  keyed-items-from : (before : List ℕ) (es : Entries Spelt (List ℕ)) → length (itemsFrom (keyedFrom before es)) ≡ length (itemsFrom es)
-  keyed-items-from before end = refl
-  keyed-items-from before (entry e g es) =
-      let k : List ℕ = recordOf before e .key in
-      rw (length-append (itemsUnder (keyedUnder g)) (itemsFrom (keyedFrom k es)), length-append (itemsUnder g) (itemsFrom es), keyed-items-under g, keyed-items-from k es)
 
 pub slots-length : (d at : ℕ) (t : SpeltTree) → length (slots d at t) ≡ length (records t)
 slots-length d at t = sym (length-map (slots d at t) (λ x. x .item)) ∙ ap length (slots-records d at t)

@@ -11,23 +11,14 @@ use Rattle.key.proofs.Laws.{less-connected, less-asymmetric, less-same}
 use Rattle.tree.specs.Tree.{page, Gap, empty, under, Entries, end, entry, items, itemsUnder, itemsFrom}
 use Rattle.tree.specs.Record.{Record, Spelt, recordOf, keyed, keyedUnder, keyedFrom, records}
 use Rattle.tree.specs.Table.{SpeltTree, linkOf, rawEntries, rawPage, bytesOfPage, table, tableUnder}
+use Rattle.tree.proofs.Laws.{keyed-items, keyed-items-under}
 use Rattle.index.specs.Slot.{bare, filled, filledUnder, filledFrom}
 use Rattle.index.specs.Walk.{holding}
 use Rattle.index.specs.Chain.{onlyLink, labelsOn, chainIf, chains, chainsUnder, chainsFrom}
-use Rattle.index.proofs.SlotLaws.{slots-items, slots-length}
 use Rattle.path.specs.Path.{pathOf, pathUnder, pathFrom}
 use Rattle.path_writer.specs.Chains.{covers, emptyPages, chainBytes, covering, pathAmong}
 use Rattle.path_writer.proofs.Positions.{Stands, stands-within, stands-alone, stands-before, stands-here, stands-behind}
 use Rattle.path_writer.proofs.Covering.{empty-more, leading, leading-none, covering-append, none-gap, none-row}
-
--- ---- as many records as entries
-record-count : (t : SpeltTree) → length (records t) ≡ length (items t)
-record-count t = sym (slots-length 0 0 t) ∙ slots-items 0 0 t
-
-gap-count : (g : Gap Spelt (List ℕ)) → length (itemsUnder (keyedUnder g)) ≡ length (itemsUnder g)
-unfolding keyed items
-gap-count empty = refl
-gap-count (under d p) = record-count p
 
 -- ---- the path of a key that stands at these positions
 module _ (low high : ℕ) (k : List ℕ) where
@@ -50,7 +41,7 @@ module _ (low high : ℕ) (k : List ℕ) where
   unfolding covers
   holds t from s =
       let w = stands-within (records t) s in
-      let n = record-count t in
+      let n = keyed-items t in
       and-both (le-leb from low (w .0)) (le-leb high (from + length (items t)) (omega arith))
 
   entries-path : (g : Gap Spelt (List ℕ)) (e : Spelt) (h : Gap Spelt (List ℕ)) (es : Entries Spelt (List ℕ)) (from at : ℕ) (labels : List (List ℕ))
@@ -83,7 +74,7 @@ module _ (low high : ℕ) (k : List ℕ) where
       let r : Record = recordOf before e in
       let xs : List Record = itemsUnder (keyedUnder g) in
       let ys : List Record = itemsUnder (keyedUnder h) ++ itemsFrom (keyedFrom (r .key) es) in
-      let n = gap-count g in
+      let n = keyed-items-under g in
       let to : ℕ = from + length (itemsUnder g) in
       covering-append low high (chainsUnder from at [] g) (chainsFrom to next (entry e h es))
       ∙ less-connected k (r .key)

@@ -16,7 +16,7 @@ pub use Rattle.tree.proofs.BuildLaws.{place, row, build-layered, treeOf
 unfoldable pub use Rattle.tree.proofs.Depths.{depths, depthsUnder, depthsFrom, Filled, FilledUnder, FilledFrom, noLink, noEntry, barren, noneBarren, noneBarrenUnder, noneBarrenFrom}
 pub use Rattle.tree.proofs.Depths.{Level, items-depths, level-layered, layered-level, layered-filled, none-barren-filled, filled-none-barren}
 -- keys and their spelling
-pub use Rattle.tree.proofs.Spelling.{keyed-spelt, prefixes-spelt, spelt-keyed}
+pub use Rattle.tree.proofs.Spelling.{keyed-spelt, prefixes-spelt, spelt-keyed, keyed-items, keyed-items-under, keyed-items-from}
 -- number 9
 pub use Rattle.tree.proofs.Shape.{same-refl, same-equal, layerOfRecord, topOf, right-layered, layered-right, right-built, built-right, Local, right-local, none-right, local-right, none-barren-keyed, right-tree, records-tree, tree-right}
 -- tables: both ways of reading, and pages with the same bytes

@@ -4,13 +4,13 @@ use mathlib.Core.Path.{_≡_, refl, ap, ap₂}
 use mathlib.Core.Bool.{true}
 use mathlib.Core.List.{List, []}
 use lib.Dec.{eqb}
-use lib.ListN.{length, take, drop}
+use lib.ListN.{length, take, drop, length-append}
 use lib.Seq.{length-take-le, drop-at}
 use borrow.Author.Tests.{eqb-true, eq-eqb}
 use Rattle.bytestring.proofs.Tools.{and-inv}
 use Rattle.key.specs.Key.{shared}
 use Rattle.key.proofs.Laws.{shared-rebuilt, shared-le-left}
-use Rattle.tree.specs.Tree.{Page, page, Gap, empty, under, Entries, end, entry}
+use Rattle.tree.specs.Tree.{Page, page, Gap, empty, under, Entries, end, entry, items, itemsUnder, itemsFrom}
 use Rattle.tree.specs.Record.{Record, Spelt, recordOf, keyed, keyedUnder, keyedFrom, spelt, speltUnder, speltFrom}
 use Rattle.tree.specs.Judge.{prefixesRight, prefixesRightUnder, prefixesRightFrom}
 
@@ -76,3 +76,21 @@ module _ {D : Type 0} where
         let l = and-inv (prefixesRightUnder g) (k .1) in
         let q : e .shares ≡ shared before (recordOf before e .key) = eqb-true (e .shares) (shared before (recordOf before e .key)) (k .0) in
         rw (← q, remainder-back before e q, spelt-keyed-under g (l .0), spelt-keyed-from (recordOf before e .key) es (l .1))
+
+-- ---- as many records as entries
+mutual
+  unfolding keyed items
+
+  pub keyed-items : {D : Type 0} (t : Page Spelt D) → length (items (keyed t)) ≡ length (items t)
+  keyed-items (page g es) =
+      rw (length-append (itemsUnder (keyedUnder g)) (itemsFrom (keyedFrom [] es)), length-append (itemsUnder g) (itemsFrom es), keyed-items-under g, keyed-items-from [] es)
+
+  pub keyed-items-under : {D : Type 0} (g : Gap Spelt D) → length (itemsUnder (keyedUnder g)) ≡ length (itemsUnder g)
+  keyed-items-under empty = refl
+  keyed-items-under (under d p) = keyed-items p
+
+  pub keyed-items-from : {D : Type 0} (before : List ℕ) (es : Entries Spelt D) → length (itemsFrom (keyedFrom before es)) ≡ length (itemsFrom es)
+  keyed-items-from before end = refl
+  keyed-items-from before (entry e g es) =
+      let k : List ℕ = recordOf before e .key in
+      rw (length-append (itemsUnder (keyedUnder g)) (itemsFrom (keyedFrom k es)), length-append (itemsUnder g) (itemsFrom es), keyed-items-under g, keyed-items-from k es)
