@@ -13,12 +13,13 @@ mod timing;
 use common::heads::{head_for, head_of};
 use common::neighbours::Neighbour;
 use common::sets::{collection_of, part, screens_of, set, Kind};
+use common::values::{filled, GREATEST};
 use common::writes::{length_in, Call};
 use hard::{Hard, HardPath};
 use independent::Set;
 use std::hint::black_box;
 use std::time::Duration;
-use subject::{Paths, Subject};
+use subject::{blocks, Paths, Subject};
 use timing::best_times_within;
 
 /// The time for the samples of one task. The whole run takes about three minutes.
@@ -127,7 +128,7 @@ struct Lent {
 
 impl Lent {
     fn new(count: usize) -> Lent {
-        let whole = set(Kind::Ordinary, count);
+        let whole = blocks(set(Kind::Ordinary, count));
         let subject = |set: Set| Subject::of_set("ordinary records", Kind::Ordinary, set);
         Lent {
             without: subject(part(&whole, |n| n != count / 2)),
@@ -157,7 +158,7 @@ fn all_calls<'a>(
     let hash_input = || {
         black_box(mijdegen::digest(black_box(register))).expect("a register is short");
     };
-    let (mut key_out, mut other_key_out, mut value_out) = ([0; 256], [0; 256], [0; 32]);
+    let (mut key_out, mut other_key_out, mut value_out) = ([0; 256], [0; 256], [0; 33]);
     let [put, one, merge, difference] = lent;
     let second = |pair: &[&Subject; 2]| pair[1].register.clone();
     let keys: Vec<&[u8]> = whole.set.keys().map(Vec::as_slice).collect();
@@ -209,7 +210,7 @@ fn all_calls<'a>(
         Case::write("run of all", &one[..1], run(0, whole.set.len() - 1)),
         Case::write("run of 8 records", &one[..1], run(middle - 4, middle + 3)),
         Case::write("put", &put[..1], Call::put(key, value)),
-        Case::write("join", &one[..1], Call::join(key, &[0xff; 32])),
+        Case::write("join", &one[..1], Call::join(key, &GREATEST)),
         Case::write("remove", &one[..1], Call::remove(key)),
         Case::write("merge", merge, Call::merge(&second(merge))),
         Case::write(
@@ -234,7 +235,7 @@ fn all_calls<'a>(
 /// The call that gives the record beside the middle key.
 fn beside<'a>(name: &'static str, call: Neighbour, whole: &'a Subject) -> Case<'a> {
     let (register, key) = (&whole.register[..], whole.middle_key());
-    let (mut out, mut other_out, mut value) = ([0; 256], [0; 256], [0; 32]);
+    let (mut out, mut other_out, mut value) = ([0; 256], [0; 256], [0; 33]);
     Case::new(
         name,
         move || call.safe(black_box(register), black_box(key), &mut out),
@@ -248,7 +249,7 @@ fn beside<'a>(name: &'static str, call: Neighbour, whole: &'a Subject) -> Case<'
 
 /// Gives two sets of 4,096 records each: with all but 10 in common, and with none.
 fn full_pairs() -> [(&'static str, [Subject; 2]); 2] {
-    let all = set(Kind::Ordinary, 8_192);
+    let all = blocks(set(Kind::Ordinary, 8_192));
     let subject = |set: Set| {
         assert_eq!(set.len(), 4_096);
         Subject::of_set("ordinary records", Kind::Ordinary, set)
@@ -361,7 +362,7 @@ fn calls_on_pair<'a>([first, second]: [&'a [u8]; 2]) -> [Box<dyn FnMut() + 'a>; 
         Box::new(move || {
             let _ = black_box(mijdegen::check(black_box(first)));
         }),
-        write(Call::put(b"a/b1", &[0x77; 32])),
+        write(Call::put(b"a/b1", &filled(0x77))),
         write(Call::merge(second)),
         write(Call::difference(second)),
         write(Call::screen(b"app.bsky.feed.post", 20)),

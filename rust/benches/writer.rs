@@ -8,6 +8,7 @@ mod timing;
 
 use common::heads::head_of;
 use common::sets::{greatest_key, least_key, of_layer, part, Kind};
+use common::values::GREATEST;
 use common::writes::Call;
 use independent::{table, Set};
 use mijdegen::Head;
@@ -68,7 +69,7 @@ impl Case {
         without.remove(key);
         // The value is greater than each random one.
         let mut greater = set.clone();
-        greater.insert(key.to_vec(), [0xff; 32]);
+        greater.insert(key.to_vec(), GREATEST);
         // Every second record; or every second pair, so that both parts alternate too.
         let wanted: fn(usize) -> bool = match subject.kind {
             Kind::Alternating => |n| n / 2 % 2 == 0,
@@ -80,7 +81,7 @@ impl Case {
         [
             Case::new(number, "run", set, Call::run(&least, &greatest), set),
             Case::new(number, "put", &without, Call::put(key, &set[key]), set),
-            Case::new(number, "join", set, Call::join(key, &[0xff; 32]), &greater),
+            Case::new(number, "join", set, Call::join(key, &GREATEST), &greater),
             Case::new(number, "remove", set, Call::remove(key), &without),
             Case::new(number, "merge", &first, Call::merge(&table(&second)), set),
         ]

@@ -4,7 +4,7 @@
 //!
 //!     cargo run --release --example in_step
 
-use mijdegen::{check, difference, digest, merge, put, Head, Refusal, LONGEST};
+use mijdegen::{check, difference, digest, merge, put, Head, Refusal, Value, LONGEST};
 
 /// The empty register is one page without entries and without a link.
 const EMPTY: &[u8] = b"\xa2\x61e\x80\x61l\xf6";
@@ -56,7 +56,7 @@ impl Kept {
 
     /// Puts a record, whose block is this text. The head moves on with the register.
     fn put(&mut self, key: &str, block: &str) -> Result<(), Refusal> {
-        let value = digest(block.as_bytes())?;
+        let value = Value::dag_cbor(digest(block.as_bytes())?);
         self.register =
             written(|out| put(&self.register, &mut self.head, key.as_bytes(), &value, out))?;
         Ok(())

@@ -6,8 +6,9 @@
  * the answer equals the number. Take an answer apart with mijdegen_number and mijdegen_value.
  *
  * An input is a pointer and a length in bytes. It is read and never changed. An output is a
- * pointer and a length too, or a pointer to 32 bytes. Where a length is 0, the pointer is neither
- * read nor written. An output must share no byte with an input or with another output.
+ * pointer and a length too, or a pointer to the 32 bytes of a digest or the 33 of a value. Where a
+ * length is 0, the pointer is neither read nor written. An output must share no byte with an input
+ * or with another output.
  *
  * A head is a pointer to a struct mijdegen_head, at an address that 4 divides, as compilers place
  * one. It is read and written, and must share no byte with an input or an output.
@@ -16,6 +17,13 @@
  * it. The other bytes are ASCII letters, digits, '.', '-', '_', ':' and '~'. The part before the
  * slash is the collection, the part after it the name. The name is neither "." nor "..": "a/." and
  * "a/.." break the rule, "a/..." and "./a" keep it.
+ *
+ * The value of a record is a codec and a SHA-256 digest, 33 bytes in which the codec goes first, and
+ * says what the digest is the digest of: MIJDEGEN_RAW a raw file, MIJDEGEN_DAG_CBOR a record block.
+ * In a register it is the seventh byte of the value's link, three bytes before the digest. Any 32
+ * bytes are taken as the digest. Two values with equal digests and unlike codecs are unequal. The
+ * greater of two values is the one with the greater digest, compared byte by byte from the first,
+ * and at equal digests the one with the greater codec.
  *
  * Each call that takes a register judges it whole: its time grows with the register's length, and
  * a call for each of n records judges n times. A call uses up to 512 KiB of stack and no other
@@ -41,6 +49,13 @@ extern "C" {
 
 /* The length in bytes of a digest. */
 #define MIJDEGEN_DIGEST_LENGTH 32
+
+/* The length in bytes of a value: a codec, then a digest. */
+#define MIJDEGEN_VALUE_BYTES 33
+
+/* The codecs of values: of a raw file, and of a record block. */
+#define MIJDEGEN_RAW 0x55
+#define MIJDEGEN_DAG_CBOR 0x71
 
 /* How many records a screen has at most. */
 #define MIJDEGEN_PER_SCREEN 8
@@ -72,8 +87,9 @@ enum mijdegen_refusal {
     MIJDEGEN_WRONG_TREE = 9,
     /* A link's digest is not that of its page. */
     MIJDEGEN_WRONG_DIGEST = 10,
-    /* A value argument or a root digest is not 32 bytes. */
-    MIJDEGEN_VALUE_LENGTH = 11,
+    /* A value argument is not 33 bytes with codec 55 or 71 first, or a root digest is not 32
+     * bytes. */
+    MIJDEGEN_WRONG_VALUE = 11,
     /* The key is absent, for lookup and remove; no record lies at or after the key, for
      * at_or_after, or before it, for before. */
     MIJDEGEN_KEY_ABSENT = 12,
@@ -175,15 +191,30 @@ uint64_t mijdegen_check(const uint8_t *reg, size_t reg_len, struct mijdegen_head
  * Looks for the record with the key.
  *
  * The number of the answer is 0 and its value is the place in the register, counted from 0, where
- * the 32 bytes of the record's value begin. Otherwise the answer is the number of
+ * the 32 digest bytes of the record's value begin, plus 2^24 times its codec. Take it apart with
+ * mijdegen_found_place and mijdegen_found_codec. Otherwise the answer is the number of
  * mijdegen_check for a refused register; then MIJDEGEN_UNLAWFUL_KEY where the key breaks the key
  * rule; then MIJDEGEN_KEY_ABSENT where no record has the key.
  */
 uint64_t mijdegen_lookup(const uint8_t *reg, size_t reg_len, const uint8_t *key, size_t key_len);
 
+/* The place of the digest in an answer of mijdegen_lookup or mijdegen_verify: 0 where the call was
+ * refused or the key is absent. */
+static inline size_t mijdegen_found_place(uint64_t answer)
+{
+    return mijdegen_first_of_two(answer);
+}
+
+/* The codec in an answer of mijdegen_lookup or mijdegen_verify: 0 where the call was refused or the
+ * key is absent. */
+static inline uint8_t mijdegen_found_codec(uint64_t answer)
+{
+    return (uint8_t)mijdegen_second_of_two(answer);
+}
+
 /*
  * Gives the n-th record in key order, n from 0. The key is written to out, with zeros after it up
- * to out_len bytes, and the value to the 32 bytes at value.
+ * to out_len bytes, and the value to the 33 bytes at value, its codec first.
  *
  * The number of the answer is 0 and its value is the length of the key, from 3 to
  * MIJDEGEN_LONGEST_KEY. From the count of the records on the value of the answer is 0: n is past
@@ -195,13 +226,13 @@ uint64_t mijdegen_lookup(const uint8_t *reg, size_t reg_len, const uint8_t *key,
  * mijdegen_check.
  */
 uint64_t mijdegen_list(const uint8_t *reg, size_t reg_len, uint64_t n, uint8_t *out,
-                       size_t out_len, uint8_t value[MIJDEGEN_DIGEST_LENGTH]);
+                       size_t out_len, uint8_t value[MIJDEGEN_VALUE_BYTES]);
 
 /*
  * Gives the first record at or after the key: the key's own record where there is one, and else
  * the one with the next greater key. The key may be any lawful key, present or not. The record's
- * key is written to out, with zeros after it up to out_len bytes, and its value to the 32 bytes at
- * value.
+ * key is written to out, with zeros after it up to out_len bytes, and its value to the 33 bytes at
+ * value, its codec first.
  *
  * The number of the answer is 0 and its value is the length of the record's key, from 3 to
  * MIJDEGEN_LONGEST_KEY. Otherwise the answer is the number of mijdegen_check for a refused
@@ -211,7 +242,7 @@ uint64_t mijdegen_list(const uint8_t *reg, size_t reg_len, uint64_t n, uint8_t *
  */
 uint64_t mijdegen_at_or_after(const uint8_t *reg, size_t reg_len, const uint8_t *key,
                               size_t key_len, uint8_t *out, size_t out_len,
-                              uint8_t value[MIJDEGEN_DIGEST_LENGTH]);
+                              uint8_t value[MIJDEGEN_VALUE_BYTES]);
 
 /*
  * Gives the last record before the key, whether a record has the key itself or not. It is written
@@ -219,7 +250,7 @@ uint64_t mijdegen_at_or_after(const uint8_t *reg, size_t reg_len, const uint8_t 
  * MIJDEGEN_KEY_ABSENT where no record lies before the key.
  */
 uint64_t mijdegen_before(const uint8_t *reg, size_t reg_len, const uint8_t *key, size_t key_len,
-                         uint8_t *out, size_t out_len, uint8_t value[MIJDEGEN_DIGEST_LENGTH]);
+                         uint8_t *out, size_t out_len, uint8_t value[MIJDEGEN_VALUE_BYTES]);
 
 /*
  * The seven functions below write a register. Its table stands at the start of out, with zeros
@@ -235,7 +266,8 @@ uint64_t mijdegen_before(const uint8_t *reg, size_t reg_len, const uint8_t *key,
  *     before the last; also where the collection stands before the slash in no lawful key;
  *   - MIJDEGEN_FIRST_AFTER_LAST where the first key is greater than the last;
  *   - MIJDEGEN_NO_SUCH_SCREEN where n is at or past the number of screens;
- *   - MIJDEGEN_VALUE_LENGTH where value_len is not MIJDEGEN_DIGEST_LENGTH;
+ *   - MIJDEGEN_WRONG_VALUE where value_len is not MIJDEGEN_VALUE_BYTES, or the first byte at value
+ *     is neither MIJDEGEN_RAW nor MIJDEGEN_DAG_CBOR;
  *   - MIJDEGEN_KEY_ABSENT where no record has the key to be removed;
  *   - MIJDEGEN_TOO_MANY_RECORDS where the result has more than 4,096 records;
  *   - MIJDEGEN_NO_ROOM where its table is longer than out_len, or than MIJDEGEN_LONGEST bytes.
@@ -267,7 +299,7 @@ uint64_t mijdegen_put(const uint8_t *reg, size_t reg_len, struct mijdegen_head *
 
 /*
  * Gives the key the value as mijdegen_put does; but where a record has the key already, the
- * greater of the two values is kept, compared byte by byte from the first.
+ * greater of the two values is kept.
  */
 uint64_t mijdegen_join(const uint8_t *reg, size_t reg_len, struct mijdegen_head *head,
                        const uint8_t *key, size_t key_len, const uint8_t *value, size_t value_len,
@@ -361,10 +393,11 @@ uint64_t mijdegen_path(const uint8_t *reg, size_t reg_len, const uint8_t *key, s
  * the root page, which is the first page of the register and of every path from it.
  *
  * The number of the answer is 0. Its value is 0 where the key is absent, and else the place in the
- * path, counted from 0, where the 32 bytes of the key's value begin. Otherwise the answer is
- * MIJDEGEN_TOO_LONG where the path is longer than MIJDEGEN_LONGEST bytes; then
- * MIJDEGEN_UNLAWFUL_KEY where the key breaks the key rule; then MIJDEGEN_VALUE_LENGTH where
- * root_len is not MIJDEGEN_DIGEST_LENGTH. Then each page in turn is judged by these numbers:
+ * path, counted from 0, where the 32 digest bytes of the key's value begin, plus 2^24 times its
+ * codec; take it apart as that of mijdegen_lookup. Otherwise the answer is MIJDEGEN_TOO_LONG where
+ * the path is longer than MIJDEGEN_LONGEST bytes; then MIJDEGEN_UNLAWFUL_KEY where the key breaks
+ * the key rule; then MIJDEGEN_WRONG_VALUE where root_len is not MIJDEGEN_DIGEST_LENGTH. Then each
+ * page in turn is judged by these numbers:
  *
  *   - MIJDEGEN_ENDS_EARLY where the path ends while a byte of the page is due, or MIJDEGEN_DEPARTS
  *     where a byte departs from the page form, whichever comes first;

@@ -16,7 +16,7 @@ extern "C" {
         n: u64,
         out: *mut u8,
         out_len: usize,
-        value: *mut [u8; 32],
+        value: *mut [u8; 33],
     ) -> u64;
     pub fn mijdegen_at_or_after(
         reg: *const u8,
@@ -25,7 +25,7 @@ extern "C" {
         key_len: usize,
         out: *mut u8,
         out_len: usize,
-        value: *mut [u8; 32],
+        value: *mut [u8; 33],
     ) -> u64;
     pub fn mijdegen_before(
         reg: *const u8,
@@ -34,7 +34,7 @@ extern "C" {
         key_len: usize,
         out: *mut u8,
         out_len: usize,
-        value: *mut [u8; 32],
+        value: *mut [u8; 33],
     ) -> u64;
     pub fn mijdegen_run(
         reg: *const u8,

@@ -35,6 +35,33 @@
 //!
 //! Keys are ordered byte by byte; a key stands before every longer key that begins with it.
 //!
+//! # Values
+//!
+//! A [`Value`] is a SHA-256 digest and a [`Codec`], which says what it is the digest of: a record
+//! block, or a raw file such as a drawing. One register may have values of both. Two values with
+//! equal digests and unlike codecs are unequal: [`put`] writes one over the other, and
+//! [`difference`] lists them. Of two values [`join`] and [`merge`] keep the one with the greater
+//! digest and, at equal digests, the one with the greater codec:
+//!
+//! ```
+//! use mijdegen::{check, join, lookup, put, Codec, Refusal, Value};
+//!
+//! let (block, drawing) = (Value::dag_cbor([0x11; 32]), Value::raw([0x11; 32]));
+//! assert!(block > drawing);
+//!
+//! let empty = b"\xa2\x61e\x80\x61l\xf6";
+//! let mut head = check(empty)?;
+//! let (mut one, mut next) = ([0; 64], [0; 64]);
+//! put(empty, &mut head, b"a/b1", &drawing, &mut one)?;
+//! assert_eq!(lookup(&one, b"a/b1")?.codec, Codec::Raw);
+//!
+//! join(&one, &mut head, b"a/b1", &block, &mut next)?;
+//! assert_eq!(lookup(&next, b"a/b1"), Ok(block));
+//! join(&next, &mut head, b"a/b1", &drawing, &mut one)?;
+//! assert_eq!(one, next);
+//! # Ok::<(), Refusal>(())
+//! ```
+//!
 //! # Heads
 //!
 //! A [`Head`] is one small record that a caller keeps beside a register: the count of its records,
@@ -44,7 +71,7 @@
 //! register from call to call:
 //!
 //! ```
-//! use mijdegen::{check, put, remove, Refusal};
+//! use mijdegen::{check, put, remove, Refusal, Value};
 //!
 //! let empty = b"\xa2\x61e\x80\x61l\xf6";
 //! let start = check(empty)?;
@@ -52,11 +79,11 @@
 //!
 //! let mut head = start;
 //! let (mut one, mut two, mut left) = ([0; 64], [0; 200], [0; 64]);
-//! put(empty, &mut head, b"a/b1", &[0x11; 32], &mut one)?;
+//! put(empty, &mut head, b"a/b1", &Value::dag_cbor([0x11; 32]), &mut one)?;
 //! assert_eq!((head.count, head.layer), (1, 0));
 //!
 //! // The key `a/b2` has layer 1, so the root rises.
-//! let length = put(&one, &mut head, b"a/b2", &[0x22; 32], &mut two)?;
+//! let length = put(&one, &mut head, b"a/b2", &Value::raw([0x22; 32]), &mut two)?;
 //! let two = &two[..length];
 //! assert_eq!((head.count, head.layer), (2, 1));
 //! assert_eq!(check(two), Ok(head));
@@ -115,11 +142,13 @@ mod head;
 mod refusal;
 #[allow(unsafe_code)]
 mod sys;
+mod value;
 
 use core::ops::RangeInclusive;
 
 pub use head::Head;
 pub use refusal::Refusal;
+pub use value::{Codec, Value, VALUE_BYTES};
 
 /// The length in bytes of the longest register, of the longest path, and of the longest input that
 /// [`digest`] and [`layer`] take. No call that writes a register or a path needs a longer output.
@@ -281,7 +310,7 @@ pub fn check(register: &[u8]) -> Result<Head, Refusal> {
     Ok(head)
 }
 
-/// Gives the value of the key, as a part of the lent register.
+/// Gives the value of the key.
 ///
 /// # Errors
 ///
@@ -292,7 +321,7 @@ pub fn check(register: &[u8]) -> Result<Head, Refusal> {
 /// # Examples
 ///
 /// ```
-/// use mijdegen::{lookup, Refusal};
+/// use mijdegen::{lookup, Refusal, Value};
 ///
 /// // One page with one entry: key `a/b1`, prefix 0, no link, and the value as a link.
 /// let mut register = b"\xa2\x61e\x81\xa4\x61k\x44a/b1\x61p\x00\x61t\xf6\x61v".to_vec();
@@ -300,15 +329,20 @@ pub fn check(register: &[u8]) -> Result<Head, Refusal> {
 /// register.extend([0x11; 32]);
 /// register.extend(b"\x61l\xf6");
 ///
-/// assert_eq!(lookup(&register, b"a/b1"), Ok(&[0x11; 32]));
+/// assert_eq!(lookup(&register, b"a/b1"), Ok(Value::dag_cbor([0x11; 32])));
 /// assert_eq!(lookup(&register, b"a/b2"), Err(Refusal::KeyAbsent));
 /// assert_eq!(lookup(&register, b"a/"), Err(Refusal::UnlawfulKey));
+///
+/// // The seventh byte of the link is the codec.
+/// register[26] = 0x55;
+/// assert_eq!(lookup(&register, b"a/b1"), Ok(Value::raw([0x11; 32])));
 /// ```
-pub fn lookup<'a>(register: &'a [u8], key: &[u8]) -> Result<&'a Digest, Refusal> {
-    Ok(value_at(register, lookup_place(register, key)?))
+pub fn lookup(register: &[u8], key: &[u8]) -> Result<Value, Refusal> {
+    Ok(value_found(register, outcome(sys::lookup(register, key))?))
 }
 
-/// Gives the place in the register, counted from 0, where the 32 bytes of the key's value begin.
+/// Gives the place in the register, counted from 0, where the 32 digest bytes of the key's value
+/// begin.
 ///
 /// # Errors
 ///
@@ -329,7 +363,8 @@ pub fn lookup<'a>(register: &'a [u8], key: &[u8]) -> Result<&'a Digest, Refusal>
 /// # Ok::<(), mijdegen::Refusal>(())
 /// ```
 pub fn lookup_place(register: &[u8], key: &[u8]) -> Result<usize, Refusal> {
-    Ok(count(outcome(sys::lookup(register, key))?))
+    let (place, _) = two_numbers(outcome(sys::lookup(register, key))?);
+    Ok(place)
 }
 
 /// A record that [`list`], [`at_or_after`] or [`before`] gives. Its key stands at the start of the
@@ -339,7 +374,7 @@ pub struct Listed {
     /// The length of the key, from 3 to [`LONGEST_KEY`].
     pub key_length: usize,
     /// The value of the record.
-    pub value: Digest,
+    pub value: Value,
 }
 
 /// Gives the n-th record in key order, counted from 0. Past the end there is none.
@@ -358,7 +393,7 @@ pub struct Listed {
 /// # Examples
 ///
 /// ```
-/// use mijdegen::{list, Refusal, LONGEST_KEY};
+/// use mijdegen::{list, Refusal, Value, LONGEST_KEY};
 ///
 /// // One page with one entry: key `a/b1`, prefix 0, no link, and the value as a link.
 /// let mut register = b"\xa2\x61e\x81\xa4\x61k\x44a/b1\x61p\x00\x61t\xf6\x61v".to_vec();
@@ -369,7 +404,7 @@ pub struct Listed {
 /// let mut out = [0; LONGEST_KEY];
 /// let listed = list(&register, 0, &mut out)?.expect("there is one record");
 /// assert_eq!(out[..listed.key_length], *b"a/b1");
-/// assert_eq!(listed.value, [0x11; 32]);
+/// assert_eq!(listed.value, Value::dag_cbor([0x11; 32]));
 ///
 /// assert_eq!(list(&register, 1, &mut out), Ok(None));
 /// assert_eq!(out, [0; LONGEST_KEY]);
@@ -378,12 +413,12 @@ pub struct Listed {
 /// # Ok::<(), Refusal>(())
 /// ```
 pub fn list(register: &[u8], n: usize, out: &mut [u8]) -> Result<Option<Listed>, Refusal> {
-    let mut value = [0; 32];
-    let key_length = count(outcome(sys::list(register, n as u64, out, &mut value))?);
+    let mut value = [0; VALUE_BYTES];
+    let key_length = outcome(sys::list(register, n as u64, out, &mut value))?;
     if key_length == 0 {
         return Ok(None);
     }
-    Ok(Some(Listed { key_length, value }))
+    Ok(Some(listed(key_length, &value)))
 }
 
 /// Gives the first record at or after the key: the key's own record where there is one, and else
@@ -404,19 +439,19 @@ pub fn list(register: &[u8], n: usize, out: &mut [u8]) -> Result<Option<Listed>,
 /// # Examples
 ///
 /// ```
-/// use mijdegen::{at_or_after, check, put, Refusal, LONGEST_KEY};
+/// use mijdegen::{at_or_after, check, put, Refusal, Value, LONGEST_KEY};
 ///
 /// let empty = b"\xa2\x61e\x80\x61l\xf6";
 /// let (mut one, mut two) = ([0; 64], [0; 200]);
 /// let mut head = check(empty)?;
-/// put(empty, &mut head, b"a/b1", &[0x11; 32], &mut one)?;
-/// let length = put(&one, &mut head, b"a/b30", &[0x33; 32], &mut two)?;
+/// put(empty, &mut head, b"a/b1", &Value::dag_cbor([0x11; 32]), &mut one)?;
+/// let length = put(&one, &mut head, b"a/b30", &Value::raw([0x33; 32]), &mut two)?;
 /// let register = &two[..length];
 ///
 /// let mut out = [0; LONGEST_KEY];
 /// let found = at_or_after(register, b"a/b2", &mut out)?;
 /// assert_eq!(out[..found.key_length], *b"a/b30");
-/// assert_eq!(found.value, [0x33; 32]);
+/// assert_eq!(found.value, Value::raw([0x33; 32]));
 ///
 /// // A present key is found itself.
 /// let found = at_or_after(register, b"a/b1", &mut out)?;
@@ -424,7 +459,8 @@ pub fn list(register: &[u8], n: usize, out: &mut [u8]) -> Result<Option<Listed>,
 /// assert_eq!(out[found.key_length..], [0; LONGEST_KEY - 4]);
 ///
 /// // A key stands before every longer key that begins with it.
-/// assert_eq!(at_or_after(register, b"a/b3", &mut out)?.value, [0x33; 32]);
+/// let found = at_or_after(register, b"a/b3", &mut out)?;
+/// assert_eq!(found.value, Value::raw([0x33; 32]));
 /// assert_eq!(at_or_after(register, b"a/b301", &mut out), Err(Refusal::KeyAbsent));
 /// assert_eq!(out, [0; LONGEST_KEY]);
 ///
@@ -433,9 +469,9 @@ pub fn list(register: &[u8], n: usize, out: &mut [u8]) -> Result<Option<Listed>,
 /// # Ok::<(), Refusal>(())
 /// ```
 pub fn at_or_after(register: &[u8], key: &[u8], out: &mut [u8]) -> Result<Listed, Refusal> {
-    let mut value = [0; 32];
-    let key_length = count(outcome(sys::at_or_after(register, key, out, &mut value))?);
-    Ok(Listed { key_length, value })
+    let mut value = [0; VALUE_BYTES];
+    let key_length = outcome(sys::at_or_after(register, key, out, &mut value))?;
+    Ok(listed(key_length, &value))
 }
 
 /// Gives the last record before the key, whether a record has the key itself or not.
@@ -454,19 +490,19 @@ pub fn at_or_after(register: &[u8], key: &[u8], out: &mut [u8]) -> Result<Listed
 /// # Examples
 ///
 /// ```
-/// use mijdegen::{before, check, put, Refusal, LONGEST_KEY};
+/// use mijdegen::{before, check, put, Refusal, Value, LONGEST_KEY};
 ///
 /// let empty = b"\xa2\x61e\x80\x61l\xf6";
 /// let (mut one, mut two) = ([0; 64], [0; 200]);
 /// let mut head = check(empty)?;
-/// put(empty, &mut head, b"a/b1", &[0x11; 32], &mut one)?;
-/// let length = put(&one, &mut head, b"a/b30", &[0x33; 32], &mut two)?;
+/// put(empty, &mut head, b"a/b1", &Value::dag_cbor([0x11; 32]), &mut one)?;
+/// let length = put(&one, &mut head, b"a/b30", &Value::raw([0x33; 32]), &mut two)?;
 /// let register = &two[..length];
 ///
 /// let mut out = [0; LONGEST_KEY];
 /// let found = before(register, b"a/b4", &mut out)?;
 /// assert_eq!(out[..found.key_length], *b"a/b30");
-/// assert_eq!(found.value, [0x33; 32]);
+/// assert_eq!(found.value, Value::raw([0x33; 32]));
 ///
 /// // The record of a present key does not lie before it.
 /// let found = before(register, b"a/b30", &mut out)?;
@@ -481,9 +517,9 @@ pub fn at_or_after(register: &[u8], key: &[u8], out: &mut [u8]) -> Result<Listed
 /// # Ok::<(), Refusal>(())
 /// ```
 pub fn before(register: &[u8], key: &[u8], out: &mut [u8]) -> Result<Listed, Refusal> {
-    let mut value = [0; 32];
-    let key_length = count(outcome(sys::before(register, key, out, &mut value))?);
-    Ok(Listed { key_length, value })
+    let mut value = [0; VALUE_BYTES];
+    let key_length = outcome(sys::before(register, key, out, &mut value))?;
+    Ok(listed(key_length, &value))
 }
 
 /// Writes the register of the records in a range of keys, `first..=last`: from the first key up to
@@ -504,13 +540,14 @@ pub fn before(register: &[u8], key: &[u8], out: &mut [u8]) -> Result<Listed, Ref
 /// # Examples
 ///
 /// ```
-/// use mijdegen::{check, lookup, put, run, Refusal};
+/// use mijdegen::{check, lookup, put, run, Refusal, Value};
 ///
 /// let empty = b"\xa2\x61e\x80\x61l\xf6";
 /// let (mut register, mut next) = (empty.to_vec(), vec![0; 300]);
 /// let mut head = check(empty)?;
-/// for (key, value) in [(b"a/b1", 0x11), (b"a/b2", 0x22), (b"a/b3", 0x33)] {
-///     let length = put(&register, &mut head, key, &[value; 32], &mut next)?;
+/// for (key, byte) in [(b"a/b1", 0x11), (b"a/b2", 0x22), (b"a/b3", 0x33)] {
+///     let value = Value::dag_cbor([byte; 32]);
+///     let length = put(&register, &mut head, key, &value, &mut next)?;
 ///     register = next[..length].to_vec();
 /// }
 ///
@@ -518,12 +555,12 @@ pub fn before(register: &[u8], key: &[u8], out: &mut [u8]) -> Result<Listed, Ref
 /// let mut out = [0xaa; 300];
 /// let length = run(&register, b"a/b2"..=b"a/b3", &mut out)?;
 /// assert_eq!(check(&out[..length])?.count, 2);
-/// assert_eq!(lookup(&out[..length], b"a/b3"), Ok(&[0x33; 32]));
+/// assert_eq!(lookup(&out[..length], b"a/b3"), Ok(Value::dag_cbor([0x33; 32])));
 /// assert!(out[length..].iter().all(|byte| *byte == 0));
 ///
 /// // The keys need not be present.
 /// assert_eq!(run(&register, b"a/b11"..=b"a/b20", &mut out), Ok(64));
-/// assert_eq!(lookup(&out[..64], b"a/b2"), Ok(&[0x22; 32]));
+/// assert_eq!(lookup(&out[..64], b"a/b2"), Ok(Value::dag_cbor([0x22; 32])));
 ///
 /// // No record lies between these keys.
 /// assert_eq!(run(&register, b"a/b4"..=b"a/b5", &mut out), Ok(7));
@@ -553,7 +590,7 @@ pub fn run<K: AsRef<[u8]>>(
 /// not. Gives the length of its table.
 ///
 /// The table stands at the start of the output, with zeros after it. On refusal the output is
-/// zero. A value is the SHA-256 digest of the record's block, but any 32 bytes are taken.
+/// zero.
 ///
 /// The head is that of the register. Afterwards it is that of the register which was written; on
 /// refusal it is as it was lent.
@@ -562,21 +599,22 @@ pub fn run<K: AsRef<[u8]>>(
 ///
 /// One of the refusals 1 to 10 where [`check`] refuses the register; then [`Refusal::UntrueHead`]
 /// where the head is not the one that [`check`] gives, [`Refusal::UnlawfulKey`] where the key
-/// breaks the key rule, [`Refusal::ValueLength`] where the value is not 32 bytes,
-/// [`Refusal::TooManyRecords`] where the result has more than 4,096 records, and
-/// [`Refusal::NoRoom`] where its table is longer than the output, or than [`LONGEST`] bytes.
+/// breaks the key rule, [`Refusal::TooManyRecords`] where the result has more than 4,096 records,
+/// and [`Refusal::NoRoom`] where its table is longer than the output, or than [`LONGEST`] bytes.
+/// The C function refuses a wrong value behind the key; a [`Value`] is never wrong.
 ///
 /// # Examples
 ///
 /// ```
-/// use mijdegen::{check, put, Refusal};
+/// use mijdegen::{check, put, Refusal, Value};
 ///
 /// // The empty register is one page without entries and without a link. Puts into it reach any
 /// // set of records.
 /// let empty = b"\xa2\x61e\x80\x61l\xf6";
 /// let start = check(empty)?;
+/// let value = Value::dag_cbor([0x11; 32]);
 /// let (mut head, mut out) = (start, [0; 64]);
-/// assert_eq!(put(empty, &mut head, b"a/b1", &[0x11; 32], &mut out), Ok(64));
+/// assert_eq!(put(empty, &mut head, b"a/b1", &value, &mut out), Ok(64));
 /// assert_eq!(head.count, 1);
 ///
 /// // One page with one entry: key `a/b1`, prefix 0, no link, and the value as a link.
@@ -587,34 +625,33 @@ pub fn run<K: AsRef<[u8]>>(
 /// assert_eq!(out[..], expected);
 ///
 /// // The head has moved on, and is no longer that of the empty register.
-/// let refused = put(empty, &mut head, b"a/b1", &[0x11; 32], &mut out);
+/// let refused = put(empty, &mut head, b"a/b1", &value, &mut out);
 /// assert_eq!(refused, Err(Refusal::UntrueHead));
 ///
 /// // 63 bytes are too few.
 /// let mut head = start;
-/// let refused = put(empty, &mut head, b"a/b1", &[0x11; 32], &mut out[..63]);
+/// let refused = put(empty, &mut head, b"a/b1", &value, &mut out[..63]);
 /// assert_eq!(refused, Err(Refusal::NoRoom));
 /// assert_eq!(out[..63], [0; 63]);
 /// assert_eq!(head, start);
-///
-/// let refused = put(empty, &mut head, b"a/b1", &[0x11; 31], &mut out);
-/// assert_eq!(refused, Err(Refusal::ValueLength));
 /// # Ok::<(), Refusal>(())
 /// ```
 pub fn put(
     register: &[u8],
     head: &mut Head,
     key: &[u8],
-    value: &[u8],
+    value: &Value,
     out: &mut [u8],
 ) -> Result<usize, Refusal> {
-    Ok(count(outcome(sys::put(register, head, key, value, out))?))
+    let answer = sys::put(register, head, key, &value.bytes(), out);
+    Ok(count(outcome(answer)?))
 }
 
 /// Writes the register with the record, where a present key keeps the greater of two values. Gives
 /// the length of its table.
 ///
-/// Values are compared byte by byte from the first. The output is written, and the head moves on,
+/// The greater value is the one with the greater digest, compared byte by byte from the first, and
+/// at equal digests the one with the greater codec. The output is written, and the head moves on,
 /// as by [`put`].
 ///
 /// # Errors
@@ -624,29 +661,31 @@ pub fn put(
 /// # Examples
 ///
 /// ```
-/// use mijdegen::{check, join, lookup};
+/// use mijdegen::{check, join, lookup, Value};
 ///
+/// let [lesser, value, greater] = [0x11, 0x22, 0x33].map(|byte| Value::dag_cbor([byte; 32]));
 /// let empty = b"\xa2\x61e\x80\x61l\xf6";
 /// let mut head = check(empty)?;
 /// let mut first = [0; 64];
 /// let mut second = [0; 64];
 ///
-/// assert_eq!(join(empty, &mut head, b"a/b1", &[0x22; 32], &mut first), Ok(64));
-/// assert_eq!(join(&first, &mut head, b"a/b1", &[0x11; 32], &mut second), Ok(64));
-/// assert_eq!(lookup(&second, b"a/b1"), Ok(&[0x22; 32]));
+/// assert_eq!(join(empty, &mut head, b"a/b1", &value, &mut first), Ok(64));
+/// assert_eq!(join(&first, &mut head, b"a/b1", &lesser, &mut second), Ok(64));
+/// assert_eq!(lookup(&second, b"a/b1"), Ok(value));
 ///
-/// assert_eq!(join(&second, &mut head, b"a/b1", &[0x33; 32], &mut first), Ok(64));
-/// assert_eq!(lookup(&first, b"a/b1"), Ok(&[0x33; 32]));
+/// assert_eq!(join(&second, &mut head, b"a/b1", &greater, &mut first), Ok(64));
+/// assert_eq!(lookup(&first, b"a/b1"), Ok(greater));
 /// # Ok::<(), mijdegen::Refusal>(())
 /// ```
 pub fn join(
     register: &[u8],
     head: &mut Head,
     key: &[u8],
-    value: &[u8],
+    value: &Value,
     out: &mut [u8],
 ) -> Result<usize, Refusal> {
-    Ok(count(outcome(sys::join(register, head, key, value, out))?))
+    let answer = sys::join(register, head, key, &value.bytes(), out);
+    Ok(count(outcome(answer)?))
 }
 
 /// Writes the register without the key's record. Gives the length of its table.
@@ -664,12 +703,12 @@ pub fn join(
 /// # Examples
 ///
 /// ```
-/// use mijdegen::{check, put, remove, Refusal};
+/// use mijdegen::{check, put, remove, Refusal, Value};
 ///
 /// let empty = b"\xa2\x61e\x80\x61l\xf6";
 /// let mut head = check(empty)?;
 /// let mut register = [0; 64];
-/// put(empty, &mut head, b"a/b1", &[0x11; 32], &mut register)?;
+/// put(empty, &mut head, b"a/b1", &Value::dag_cbor([0x11; 32]), &mut register)?;
 ///
 /// let mut out = [0xaa; 10];
 /// assert_eq!(remove(&register, &mut head, b"a/b2", &mut out), Err(Refusal::KeyAbsent));
@@ -707,21 +746,22 @@ pub fn remove(
 /// # Examples
 ///
 /// ```
-/// use mijdegen::{check, lookup, merge, put, Refusal};
+/// use mijdegen::{check, lookup, merge, put, Refusal, Value};
 ///
+/// let (block, drawing) = (Value::dag_cbor([0x11; 32]), Value::raw([0x22; 32]));
 /// let empty = b"\xa2\x61e\x80\x61l\xf6";
 /// let (mut first, mut second) = ([0; 64], [0; 64]);
 /// let mut first_head = check(empty)?;
 /// let mut second_head = first_head;
-/// put(empty, &mut first_head, b"a/b1", &[0x11; 32], &mut first)?;
-/// put(empty, &mut second_head, b"a/b2", &[0x22; 32], &mut second)?;
+/// put(empty, &mut first_head, b"a/b1", &block, &mut first)?;
+/// put(empty, &mut second_head, b"a/b2", &drawing, &mut second)?;
 ///
 /// let mut merged = [0; 200];
 /// let length = merge(&first, &mut first_head, &second, &mut merged)?;
 /// let merged = &merged[..length];
 /// assert_eq!(first_head.count, 2);
-/// assert_eq!(lookup(merged, b"a/b1"), Ok(&[0x11; 32]));
-/// assert_eq!(lookup(merged, b"a/b2"), Ok(&[0x22; 32]));
+/// assert_eq!(lookup(merged, b"a/b1"), Ok(block));
+/// assert_eq!(lookup(merged, b"a/b2"), Ok(drawing));
 ///
 /// let mut other_way = [0; 200];
 /// assert_eq!(merge(&second, &mut second_head, &first, &mut other_way), Ok(length));
@@ -767,13 +807,14 @@ pub struct Difference {
 /// # Examples
 ///
 /// ```
-/// use mijdegen::{check, difference, merge, put, Difference, Refusal};
+/// use mijdegen::{check, difference, merge, put, Difference, Refusal, Value};
 ///
+/// let (block, drawing) = (Value::dag_cbor([0x11; 32]), Value::raw([0x22; 32]));
 /// let empty = b"\xa2\x61e\x80\x61l\xf6";
 /// let (mut first, mut only_b2, mut second) = ([0; 64], [0; 64], [0; 200]);
-/// put(empty, &mut check(empty)?, b"a/b1", &[0x11; 32], &mut first)?;
-/// put(empty, &mut check(empty)?, b"a/b2", &[0x22; 32], &mut only_b2)?;
-/// let length = put(&first, &mut check(&first)?, b"a/b2", &[0x22; 32], &mut second)?;
+/// put(empty, &mut check(empty)?, b"a/b1", &block, &mut first)?;
+/// put(empty, &mut check(empty)?, b"a/b2", &drawing, &mut only_b2)?;
+/// let length = put(&first, &mut check(&first)?, b"a/b2", &drawing, &mut second)?;
 /// let second = &second[..length];
 ///
 /// // The second has two pages. The lower one is the first register's only page, and known.
@@ -797,7 +838,7 @@ pub struct Difference {
 /// # Ok::<(), Refusal>(())
 /// ```
 pub fn difference(first: &[u8], second: &[u8], out: &mut [u8]) -> Result<Difference, Refusal> {
-    let (length, opened) = two_counts(outcome(sys::difference(first, second, out))?);
+    let (length, opened) = two_numbers(outcome(sys::difference(first, second, out))?);
     Ok(Difference { length, opened })
 }
 
@@ -834,7 +875,8 @@ pub struct Screen {
 /// # Examples
 ///
 /// ```
-/// use mijdegen::{check, list, put, screen, Refusal, Screen, LONGEST_KEY, LONGEST_SCREEN};
+/// use mijdegen::{check, list, put, screen, Refusal, Screen, Value};
+/// use mijdegen::{LONGEST_KEY, LONGEST_SCREEN};
 ///
 /// /// Gives the screens of the collection in turn. It ends behind the last one, or with a refusal.
 /// fn screens<'a>(
@@ -859,9 +901,9 @@ pub struct Screen {
 /// let empty = b"\xa2\x61e\x80\x61l\xf6";
 /// let parts: Vec<String> = (0..10).map(|number| format!("part/b{number}")).collect();
 /// let (mut register, mut next) = (empty.to_vec(), vec![0; 3_000]);
-/// let mut head = check(empty)?;
+/// let (mut head, value) = (check(empty)?, Value::raw([0x11; 32]));
 /// for key in parts.iter().map(String::as_str).chain(["part.old/b1", "parts/b1"]) {
-///     let length = put(&register, &mut head, key.as_bytes(), &[0x11; 32], &mut next)?;
+///     let length = put(&register, &mut head, key.as_bytes(), &value, &mut next)?;
 ///     register = next[..length].to_vec();
 /// }
 ///
@@ -902,7 +944,7 @@ pub fn screen(
     out: &mut [u8],
 ) -> Result<Screen, Refusal> {
     let answer = sys::screen(register, collection, n as u64, out);
-    let (length, screens) = two_counts(outcome(answer)?);
+    let (length, screens) = two_numbers(outcome(answer)?);
     Ok(Screen { length, screens })
 }
 
@@ -927,13 +969,13 @@ pub fn screen(
 /// # Examples
 ///
 /// ```
-/// use mijdegen::{check, path, put, Refusal};
+/// use mijdegen::{check, path, put, Refusal, Value};
 ///
 /// let empty = b"\xa2\x61e\x80\x61l\xf6";
 /// let (mut one, mut two) = ([0; 64], [0; 200]);
 /// let mut head = check(empty)?;
-/// put(empty, &mut head, b"a/b1", &[0x11; 32], &mut one)?;
-/// let length = put(&one, &mut head, b"a/b2", &[0x22; 32], &mut two)?;
+/// put(empty, &mut head, b"a/b1", &Value::dag_cbor([0x11; 32]), &mut one)?;
+/// let length = put(&one, &mut head, b"a/b2", &Value::raw([0x22; 32]), &mut two)?;
 /// let register = &two[..length];
 ///
 /// // The register has two pages: `a/b2` is an entry of the root page, and `a/b1` stands in the
@@ -964,10 +1006,9 @@ pub fn path(register: &[u8], key: &[u8], out: &mut [u8]) -> Result<usize, Refusa
 
 /// What a path says of a key, as [`verify`] gives it.
 #[derive(Clone, Copy, Debug, PartialEq, Eq)]
-pub enum Presence<'a> {
-    /// The key is present with this value, which is a part of the lent path: its 32 bytes begin at
-    /// the place that the C function answers.
-    Present(&'a Digest),
+pub enum Presence {
+    /// The key is present with this value.
+    Present(Value),
     /// The key is absent.
     Absent,
 }
@@ -988,7 +1029,7 @@ pub enum Presence<'a> {
 /// # Errors
 ///
 /// [`Refusal::TooLong`] where the path is longer than [`LONGEST`] bytes; then
-/// [`Refusal::UnlawfulKey`] where the key breaks the key rule, and [`Refusal::ValueLength`] where
+/// [`Refusal::UnlawfulKey`] where the key breaks the key rule, and [`Refusal::WrongValue`] where
 /// the root digest is not 32 bytes.
 ///
 /// Then each page in turn is judged: [`Refusal::EndsEarly`] where the path ends while a byte of the
@@ -1003,14 +1044,15 @@ pub enum Presence<'a> {
 /// # Examples
 ///
 /// ```
-/// use mijdegen::{check, digest, path, put, verify, Presence, Refusal};
+/// use mijdegen::{check, digest, path, put, verify, Presence, Refusal, Value};
 ///
 /// // One who has the register has the root digest in its head.
 /// let empty = b"\xa2\x61e\x80\x61l\xf6";
 /// let (mut one, mut two) = ([0; 64], [0; 200]);
 /// let mut head = check(empty)?;
-/// put(empty, &mut head, b"a/b1", &[0x11; 32], &mut one)?;
-/// let length = put(&one, &mut head, b"a/b2", &[0x22; 32], &mut two)?;
+/// let value = Value::raw([0x11; 32]);
+/// put(empty, &mut head, b"a/b1", &value, &mut one)?;
+/// let length = put(&one, &mut head, b"a/b2", &Value::dag_cbor([0x22; 32]), &mut two)?;
 /// let register = &two[..length];
 /// let root = head.digest;
 ///
@@ -1018,37 +1060,54 @@ pub enum Presence<'a> {
 /// let mut out = [0; 200];
 /// let length = path(register, b"a/b1", &mut out)?;
 /// let sent = &out[..length];
-/// let value = [0x11; 32];
-/// assert_eq!(verify(sent, b"a/b1", &root), Ok(Presence::Present(&value)));
+/// assert_eq!(verify(sent, b"a/b1", &root), Ok(Presence::Present(value)));
 ///
 /// // The same pages say that a lesser key is absent. They say nothing of a key behind `a/b2`: the
 /// // search for it ends in the root page, and bytes are left.
 /// assert_eq!(verify(sent, b"a/b0", &root), Ok(Presence::Absent));
 /// assert_eq!(verify(sent, b"a/b3", &root), Err(Refusal::BytesFollow));
 ///
-/// // Another value cannot be passed off. The last page ends in the value and 3 bytes more.
+/// // Another value cannot be passed off. The last page ends in the value and 3 bytes more, and the
+/// // codec stands 3 bytes before the digest.
 /// let mut forged = sent.to_vec();
 /// forged[length - 4] ^= 1;
+/// assert_eq!(verify(&forged, b"a/b1", &root), Err(Refusal::PageNotDue));
+/// let mut forged = sent.to_vec();
+/// forged[length - 38] = 0x71;
 /// assert_eq!(verify(&forged, b"a/b1", &root), Err(Refusal::PageNotDue));
 ///
 /// // A register of one page is the path of every key, and its digest is the root digest.
 /// let root = digest(&one)?;
-/// assert_eq!(verify(&one, b"a/b1", &root), Ok(Presence::Present(&value)));
+/// assert_eq!(verify(&one, b"a/b1", &root), Ok(Presence::Present(value)));
 /// assert_eq!(verify(&one, b"a/b2", &root), Ok(Presence::Absent));
 /// # Ok::<(), Refusal>(())
 /// ```
-pub fn verify<'a>(path: &'a [u8], key: &[u8], root: &[u8]) -> Result<Presence<'a>, Refusal> {
-    Ok(match count(outcome(sys::verify(path, key, root))?) {
-        // No page begins with a value.
+pub fn verify(path: &[u8], key: &[u8], root: &[u8]) -> Result<Presence, Refusal> {
+    Ok(match outcome(sys::verify(path, key, root))? {
+        // No codec is 0.
         0 => Presence::Absent,
-        place => Presence::Present(value_at(path, place)),
+        found => Presence::Present(value_found(path, found)),
     })
 }
 
-/// Gives the value that begins at a place of the library's answer.
-fn value_at(lent: &[u8], place: usize) -> &Digest {
-    let value = lent.get(place..).and_then(|rest| rest.first_chunk());
-    value.expect("the library gives a place with 32 bytes of what it is lent")
+/// Gives the value that the library found in what it was lent. What it answers holds the place of
+/// the digest, and the codec.
+fn value_found(lent: &[u8], answered: u64) -> Value {
+    let (place, codec) = two_numbers(answered);
+    let digest = lent.get(place..).and_then(|rest| rest.first_chunk());
+    let codec = u8::try_from(codec).ok().and_then(Codec::from_byte);
+    Value {
+        digest: *digest.expect("the library gives a place with 32 bytes of what it is lent"),
+        codec: codec.expect("the library gives the codec of a value"),
+    }
+}
+
+/// Gives the record whose key has this length and whose value the library wrote.
+fn listed(key_length: u64, value: &[u8]) -> Listed {
+    Listed {
+        key_length: count(key_length),
+        value: Value::try_from(value).expect("the library writes a codec and a digest"),
+    }
 }
 
 /// Gives a value of the library that counts bytes, records or pages of a slice.
@@ -1056,8 +1115,8 @@ fn count(value: u64) -> usize {
     usize::try_from(value).expect("the library counts no more than a slice holds")
 }
 
-/// Takes a value of the library apart that holds two counts: the first plus 2^24 times the second.
-fn two_counts(value: u64) -> (usize, usize) {
+/// Takes a value of the library apart that holds two numbers: the first plus 2^24 times the second.
+fn two_numbers(value: u64) -> (usize, usize) {
     (count(value % (1 << 24)), count(value >> 24))
 }
 
@@ -1076,7 +1135,7 @@ fn outcome(answer: u64) -> Result<u64, Refusal> {
 
 #[cfg(test)]
 mod tests {
-    use super::{outcome, two_counts, Refusal};
+    use super::{outcome, two_numbers, Refusal};
 
     #[test]
     fn number_zero_gives_the_value() {
@@ -1086,11 +1145,11 @@ mod tests {
     }
 
     #[test]
-    fn a_value_comes_apart_into_two_counts() {
+    fn a_value_comes_apart_into_two_numbers() {
         for first in [0, 1, 7, 4_194_304, (1 << 24) - 1] {
             for second in [0, 1, 512, (1 << 32) - 1] {
                 assert_eq!(
-                    two_counts(first + (second << 24)),
+                    two_numbers(first + (second << 24)),
                     (first as usize, second as usize)
                 );
             }
@@ -1110,7 +1169,7 @@ mod tests {
             Refusal::KeysNotRising,
             Refusal::WrongTree,
             Refusal::WrongDigest,
-            Refusal::ValueLength,
+            Refusal::WrongValue,
             Refusal::KeyAbsent,
             Refusal::NoRoom,
             Refusal::FirstAfterLast,

@@ -29,8 +29,9 @@ pub enum Refusal {
     WrongTree = 9,
     /// A link's digest is not that of its page.
     WrongDigest = 10,
-    /// A value argument or a root digest is not 32 bytes.
-    ValueLength = 11,
+    /// A value argument is not 33 bytes with codec 55 or 71 first, or a root digest is not 32
+    /// bytes.
+    WrongValue = 11,
     /// The key is absent, for `lookup` and `remove`; no record lies at or after the key, for
     /// `at_or_after`, or before it, for `before`.
     KeyAbsent = 12,
@@ -66,7 +67,7 @@ impl Refusal {
             8 => Refusal::KeysNotRising,
             9 => Refusal::WrongTree,
             10 => Refusal::WrongDigest,
-            11 => Refusal::ValueLength,
+            11 => Refusal::WrongValue,
             12 => Refusal::KeyAbsent,
             13 => Refusal::NoRoom,
             14 => Refusal::FirstAfterLast,
@@ -95,7 +96,9 @@ impl fmt::Display for Refusal {
             Refusal::KeysNotRising => "a key is not greater than the key before it",
             Refusal::WrongTree => "the pages are not those that the rules give for the same keys",
             Refusal::WrongDigest => "a link's digest is not that of its page",
-            Refusal::ValueLength => "a value or a root digest is not 32 bytes",
+            Refusal::WrongValue => {
+                "a value is not 33 bytes with codec 55 or 71 first, or a root digest not 32 bytes"
+            }
             Refusal::KeyAbsent => {
                 "the key is absent, or no record lies at or after it, or before it"
             }

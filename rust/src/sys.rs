@@ -38,18 +38,18 @@ pub(crate) fn check(register: &[u8], head: &mut Head) -> u64 {
     unsafe { mijdegen_check(register.as_ptr(), register.len(), head) }
 }
 
-/// Gives the answer that holds the place of the key's value in the register.
+/// Gives the answer that holds the place of the key's value in the register, and its codec.
 pub(crate) fn lookup(register: &[u8], key: &[u8]) -> u64 {
     // SAFETY: As for `layer`, with two slices. Both are only read, so they may share bytes.
     unsafe { mijdegen_lookup(register.as_ptr(), register.len(), key.as_ptr(), key.len()) }
 }
 
 /// Writes the key and the value of the n-th record, or zeros on refusal and past the end, and
-/// gives the answer that holds the key's length.
-pub(crate) fn list(register: &[u8], n: u64, out: &mut [u8], value: &mut [u8; 32]) -> u64 {
+/// gives the answer that holds the key's length. A value is a codec and 32 digest bytes.
+pub(crate) fn list(register: &[u8], n: u64, out: &mut [u8], value: &mut [u8; 33]) -> u64 {
     // SAFETY: Each pointer and its length are of one slice, so that many bytes can be read, or
     // written, for the whole call. The pointer of an empty slice may lead nowhere, but at length
-    // 0 it is neither read nor written. The value is one pointer to 32 bytes that can be
+    // 0 it is neither read nor written. The value is one pointer to 33 bytes that can be
     // written. Being mutable, the two outputs share no byte with each other or the register.
     unsafe {
         mijdegen_list(
@@ -69,7 +69,7 @@ pub(crate) fn at_or_after(
     register: &[u8],
     key: &[u8],
     out: &mut [u8],
-    value: &mut [u8; 32],
+    value: &mut [u8; 33],
 ) -> u64 {
     // SAFETY: As for `list`, with two slices that are only read, so that they may share bytes.
     unsafe {
@@ -87,7 +87,7 @@ pub(crate) fn at_or_after(
 
 /// Writes the key and the value of the last record before the key, or zeros on refusal, and gives
 /// the answer that holds the length of the record's key.
-pub(crate) fn before(register: &[u8], key: &[u8], out: &mut [u8], value: &mut [u8; 32]) -> u64 {
+pub(crate) fn before(register: &[u8], key: &[u8], out: &mut [u8], value: &mut [u8; 33]) -> u64 {
     // SAFETY: As for `at_or_after`.
     unsafe {
         mijdegen_before(
@@ -256,8 +256,8 @@ pub(crate) fn path(register: &[u8], key: &[u8], out: &mut [u8]) -> u64 {
     }
 }
 
-/// Gives the answer that holds the place of the key's value in the path, or 0 where the path says
-/// that the key is absent.
+/// Gives the answer that holds the place of the key's value in the path, and its codec, or 0 where
+/// the path says that the key is absent.
 pub(crate) fn verify(path: &[u8], key: &[u8], root: &[u8]) -> u64 {
     // SAFETY: As for `layer`, with three slices. All are only read, so they may share bytes.
     unsafe {

@@ -1,6 +1,7 @@
 //! The tests of the library, as one program: what they share is compiled once.
 
 mod check;
+mod codecs;
 mod common;
 mod damaged;
 mod difference;

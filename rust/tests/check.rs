@@ -6,6 +6,7 @@ use crate::common::heads::{head_of, UNTRUE, ZEROS};
 use crate::common::sets::{
     published_trees, rows_of_few_layers, set, set_of_layers, sets_to, Kind, COUNTS, HIGH, KINDS,
 };
+use crate::common::values::{filled, unusual_values};
 use crate::common::{hexadecimal, Random};
 use independent::{layer, pages, sha256, table, tree_of, Set};
 use mijdegen::{check, digest, Refusal, LONGEST};
@@ -127,9 +128,9 @@ fn each_length_of_keys() {
     for length in 3..=256 {
         let mut key = vec![b'k'; length];
         key[1] = b'/';
-        let set = Set::from([(key.clone(), [length as u8; 32])]);
+        let set = Set::from([(key.clone(), filled(length as u8))]);
         assert_eq!(number_of(&table(&set)), 0, "length {length}");
-        all.insert(key, [length as u8; 32]);
+        all.insert(key, filled(length as u8));
     }
     assert_eq!(count_of(&table(&all)), Ok(254));
     assert_eq!(number_of(&table(&all)), 0);
@@ -152,10 +153,7 @@ fn each_count_of_entries() {
 
 #[test]
 fn every_value_is_taken() {
-    // 4 values of one byte each, and one that looks like a page.
-    let mut values = [[0x00; 32], [0xff; 32], [0xf6; 32], [0xa2; 32], [0; 32]];
-    values[4][..7].copy_from_slice(&EMPTY);
-    for value in values {
+    for value in unusual_values() {
         let set: Set = set_of_layers(&[0, 1, 0, 2])
             .into_keys()
             .map(|key| (key, value))

@@ -5,15 +5,17 @@
 
 use crate::common::calls::number_of;
 use crate::common::forge::{
-    entry_bytes, faulty_registers, left_chain, link_bytes, link_to, longest_page, one_record,
-    page_bytes, right_chain, Entry, Link, Page, EMPTY,
+    codec_places, entry_bytes, faulty_registers, left_chain, link_bytes, link_to, longest_page,
+    one_record, page_bytes, right_chain, Entry, Link, Page, EMPTY,
 };
 use crate::common::sets::{set, set_of_layers, short_unlawful_keys, small_sets, Kind, KINDS};
+use crate::common::values::{filled, NO_CODECS};
 use crate::common::Random;
 use independent::{lawful, layer, pages, sha256, table, Set};
 use mijdegen::LONGEST;
 
-const VALUE: [u8; 32] = [0x11; 32];
+/// The digest of a value.
+const DIGEST: [u8; 32] = [0x11; 32];
 
 const NULL: &[u8] = &[0xf6];
 
@@ -99,7 +101,7 @@ fn every_byte_with_every_byte() {
 fn each_fixed_byte() {
     let below = page_bytes(&[0x80], &[], NULL);
     let link = link_bytes(&sha256(&below));
-    let entry = entry_bytes(&[0x44], b"a/b2", &[0x00], &link, &VALUE);
+    let entry = entry_bytes(&[0x44], b"a/b2", &[0x00], &link, &link_bytes(&DIGEST));
     let register = [page_bytes(&[0x81], &entry, &link), below.clone(), below].concat();
     // The form fits, but the linked pages have no records.
     assert_eq!(number_of(&register), 9);
@@ -108,6 +110,8 @@ fn each_fixed_byte() {
     let free = |place| matches!(place, 8..12 | 26..58 | 69..101 | 112..144);
     let numbers = [3, 7, 14, 147, 154];
     let nulls = [17, 103, 150, 157];
+    // The value has one of two codecs, and a page has one.
+    let codec = 66;
     let mut cases = 0;
     for place in 0..register.len() {
         if free(place) || numbers.contains(&place) {
@@ -115,8 +119,9 @@ fn each_fixed_byte() {
         }
         let mut damaged = register[..=place].to_vec();
         for byte in 0..=255 {
-            let fits =
-                byte == register[place] || nulls.contains(&place) && (byte == 0xf6 || byte == 0xd8);
+            let fits = byte == register[place]
+                || nulls.contains(&place) && (byte == 0xf6 || byte == 0xd8)
+                || place == codec && byte == 0x55;
             damaged[place] = byte;
             cases += 1;
             // With null as its last byte the register is whole.
@@ -142,9 +147,43 @@ fn departs_at(bytes: &[u8], place: usize) -> usize {
     bytes.len() + 1
 }
 
+/// Other bytes in the place of a codec: in the link of a value 55 and 71 fit, in a link to a page
+/// 71 alone. The byte departs before the input ends behind it.
+#[test]
+fn codecs_of_links() {
+    let below = page_bytes(&[0x80], &[], NULL);
+    let (link, value) = (link_bytes(&sha256(&below)), link_bytes(&DIGEST));
+    let mut cases = [0; 2];
+    // The gaps of both entries and the left one are empty, or all are linked.
+    for (gap, pages) in [(NULL, 0), (&link, 3)] {
+        let entries = [
+            entry_bytes(&[0x44], b"a/b1", &[0x00], gap, &value),
+            entry_bytes(&[0x41], b"2", &[0x03], gap, &value),
+        ];
+        let root = page_bytes(&[0x82], &entries.concat(), gap);
+        let register = [root, below.repeat(pages)].concat();
+        for place in codec_places(&register) {
+            // The name of the part stands before the six bytes of the link.
+            let is_value = register[place - 7] == b'v';
+            for byte in NO_CODECS.into_iter().chain([0x55]) {
+                let mut changed = register.clone();
+                changed[place] = byte;
+                if is_value && byte == 0x55 {
+                    // The form fits, but the two keys have unlike layers.
+                    assert_eq!(number_of(&changed), 9);
+                } else {
+                    departs_at(&changed, place);
+                }
+                cases[usize::from(is_value)] += 1;
+            }
+        }
+    }
+    assert_eq!(cases, [3 * 7, (2 + 2) * 7]);
+}
+
 /// A page of one entry, with these bytes for the count, the remainder's length and the prefix.
 fn one_entry(count: &[u8], length: &[u8], prefix: &[u8]) -> Vec<u8> {
-    let entry = entry_bytes(length, b"a/b1", prefix, NULL, &VALUE);
+    let entry = entry_bytes(length, b"a/b1", prefix, NULL, &link_bytes(&DIGEST));
     page_bytes(count, &entry, NULL)
 }
 
@@ -274,7 +313,7 @@ fn promises_beyond_the_end() {
         cases += 7;
     }
     // One entry of many is there, whole.
-    let entry = entry_bytes(&[0x44], b"a/b1", &[0x00], NULL, &VALUE);
+    let entry = entry_bytes(&[0x44], b"a/b1", &[0x00], NULL, &link_bytes(&DIGEST));
     for count in &counts[1..] {
         assert_eq!(number_of(&start(count, &entry)), 2);
         assert_eq!(number_of(&page_bytes(count, &entry, NULL)), 3);
@@ -1231,7 +1270,7 @@ fn change_at_random(random: &mut Random, root: &mut Page) {
         _ => {
             // A value changes, and nothing is wrong.
             if count > 0 {
-                page.entries[place].value = [random.next() as u8; 32];
+                page.entries[place].value = filled(random.next() as u8);
             }
         }
     }
@@ -1305,7 +1344,10 @@ fn random_changes_of_bytes() {
                     let to = (from + 1 + random.below(64)).min(other.len());
                     bytes.splice(start..end, other[from..to].iter().copied());
                 }
-                _ => bytes[start] = *random.one_of(&[0x00, 0xf6, 0xd8, 0xa4, 0x61, 0x80, 0x81]),
+                _ => {
+                    let usual = [0x00, 0xf6, 0xd8, 0xa4, 0x61, 0x80, 0x81, 0x55, 0x71];
+                    bytes[start] = *random.one_of(&usual);
+                }
             }
         }
         counts[usize::from(number_of(&bytes))] += 1;

@@ -8,12 +8,13 @@ use crate::common::sets::{
     of_layer, one_page_below_high, part, parts, rows_of_few_layers, set, set_of_layers, sets_to,
     value, Kind, COUNTS, HIGH, KINDS,
 };
+use crate::common::values::{filled, other_codec, GREATEST, LEAST};
 use crate::common::writes::{
     compare_call, compare_lengths, expect_refusal, expect_table, expect_table_and, value_of_two,
     written, Call,
 };
 use crate::common::Random;
-use independent::{layer, pages, table, tree, tree_of, Set, LONGEST};
+use independent::{layer, pages, table, tree, tree_of, Set, Value, LONGEST};
 use mijdegen::{difference, Difference};
 use std::collections::HashSet;
 use std::slice::Iter;
@@ -21,7 +22,7 @@ use std::slice::Iter;
 /// Counts the opened pages of the second set by the bytes of the pages, without any digest.
 fn opened_pages(first: &Set, second: &Set) -> usize {
     fn visit(
-        page: &tree::Page<(&[u8], &[u8; 32])>,
+        page: &tree::Page<(&[u8], &Value)>,
         bytes: &mut Iter<Vec<u8>>,
         known: &HashSet<Vec<u8>>,
         known_above: bool,
@@ -135,9 +136,9 @@ fn one_record_apart() {
         for n in places {
             let others = part(&set, |other| other != n);
             let mut greater = set.clone();
-            *greater.values_mut().nth(n).expect("a record") = [0xff; 32];
+            *greater.values_mut().nth(n).expect("a record") = GREATEST;
             let mut lesser = set.clone();
-            *lesser.values_mut().nth(n).expect("a record") = [0; 32];
+            *lesser.values_mut().nth(n).expect("a record") = LEAST;
             for changed in [&others, &greater, &lesser] {
                 for (first, second) in [(&set, changed), (changed, &set)] {
                     assert!(compare(first, second) <= pages(second).len(), "{kind:?}");
@@ -159,7 +160,7 @@ fn few_pages_are_opened() {
         let highest = set.keys().map(|key| layer(key)).max().expect("records");
         for n in [0, 1_000, 4_095] {
             let mut changed = set.clone();
-            *changed.values_mut().nth(n).expect("a record") = [0xff; 32];
+            *changed.values_mut().nth(n).expect("a record") = GREATEST;
             let (found, opened) = expect_difference(&set, &changed);
             assert_eq!(count_of(&found), Ok(1));
             let key = changed.keys().nth(n).expect("a record");
@@ -225,7 +226,7 @@ fn values_one_bit_apart() {
         for bit in 0..256 {
             let mut changed = set.clone();
             let kept = changed.values_mut().nth(n).expect("3 records");
-            kept[bit / 8] ^= 1 << (bit % 8);
+            kept.digest[bit / 8] ^= 1 << (bit % 8);
             let (found, _) = expect_difference(&set, &changed);
             assert_eq!(count_of(&found), Ok(1));
             cases += 1;
@@ -372,7 +373,7 @@ fn many_pages_without_entries() {
     // One page of 4,095 records, and the highest key that is known above a part of it.
     let low = one_page_below_high(4_095);
     let mut high = low.clone();
-    high.insert(HIGH[0].as_bytes().to_vec(), [0x77; 32]);
+    high.insert(HIGH[0].as_bytes().to_vec(), filled(0x77));
     let (found, opened) = expect_difference(&low, &high);
     assert_eq!(count_of(&found), Ok(1));
     // Two chains of 16 pages below the root, of which no page is the one page.
@@ -396,7 +397,7 @@ fn ten_thousand_pages() {
     let mut cases = 0;
     for (n, expected) in [(2_000, 1), (2_001, 6), (4_095, 6)] {
         let mut changed = set.clone();
-        *changed.values_mut().nth(n).expect("a record") = [0xff; 32];
+        *changed.values_mut().nth(n).expect("a record") = GREATEST;
         let (found, opened) = expect_difference(&set, &changed);
         assert_eq!((count_of(&found), opened), (Ok(1), expected));
         cases += 1;
@@ -405,11 +406,12 @@ fn ten_thousand_pages() {
 
     // All records of the root have another value, or all the others have.
     let mut root = set.clone();
-    root.values_mut().step_by(2).for_each(|kept| kept[0] ^= 1);
+    let highest = root.values_mut().step_by(2);
+    highest.for_each(|kept| kept.digest[0] ^= 1);
     assert_eq!(expect_difference(&set, &root).1, 1);
     let mut others = set.clone();
     let lowest = others.values_mut().skip(1).step_by(2);
-    lowest.for_each(|kept| kept[31] ^= 1);
+    lowest.for_each(|kept| *kept = other_codec(kept));
     assert_eq!(expect_difference(&set, &others).1, 10_241);
 
     // The records of layer 0 alone are one page, which the first does not have.
@@ -554,8 +556,8 @@ fn registers_at_any_place() {
     assert_eq!(cases, 16 * 3);
 
     // A value that is the empty register and more: 7 bytes of one register are the other.
-    let mut value = [0x11; 32];
-    value[..7].copy_from_slice(&EMPTY);
+    let mut value = filled(0x11);
+    value.digest[..7].copy_from_slice(&EMPTY);
     let register = table(&Set::from([(b"a/b1".to_vec(), value)]));
     let mut out = [0xaa; 64];
     let all = Difference {

@@ -8,9 +8,9 @@ use crate::common::paths::expect_verdict;
 use crate::common::sets::{dot_name_keys, dotted_keys, set, value, Kind, KINDS};
 use crate::common::writes::{expect_refusal, written, Call};
 use crate::common::Random;
-use independent::{lawful, layer, sha256, table, Set};
+use independent::{lawful, layer, sha256, table, Set, Value};
 
-const VALUE: [u8; 32] = [0x11; 32];
+const VALUE: Value = Value::raw([0x11; 32]);
 
 /// The register of one record with this key, whatever the key is.
 fn register_of(key: &[u8]) -> Vec<u8> {

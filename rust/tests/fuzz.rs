@@ -16,6 +16,7 @@ use crate::common::lists::{damaged, drawn_value, out_length, Source};
 use crate::common::neighbours::{compare_neighbour, NEIGHBOURS};
 use crate::common::paths::compare_verify;
 use crate::common::sets::{collection_of, part, records_of, set, Kind, KINDS, NEAR_COLLECTIONS};
+use crate::common::values::filled;
 use crate::common::writes::{compare_call_with, length_in, Call};
 use crate::common::Random;
 use independent::{table, Set};
@@ -142,8 +143,8 @@ fn run(random: &mut Random, sources: &[Source], counts: &mut [u64; 18]) {
     };
     let calls = [
         draw_run(random, source, &set),
-        Call::put(&source.key(random, &set), &drawn_value(random)),
-        Call::join(&source.key(random, &set), &drawn_value(random)),
+        Call::put_bytes(&source.key(random, &set), &drawn_value(random)),
+        Call::join_bytes(&source.key(random, &set), &drawn_value(random)),
         Call::remove(&source.key(random, &set)),
         Call::merge(&second),
         Call::difference(&second),
@@ -156,7 +157,7 @@ fn run(random: &mut Random, sources: &[Source], counts: &mut [u64; 18]) {
 
     let (path, key, root) = draw_path(random, source, &set);
     let verdict = compare_verify(&path, &key, &root);
-    count(verdict.map(|place| place.unwrap_or(0)));
+    count(verdict.map(|_| 0));
 }
 
 /// Draws a path with its key and its root digest. Most are right; in the others pages or bytes are
@@ -176,7 +177,7 @@ fn draw_path(random: &mut Random, source: &Source, set: &Set) -> (Vec<u8>, Vec<u
         2 => pages.swap(0, n),
         3 => key = source.key(random, set),
         4 => digest[random.below(32)] ^= 1 << random.below(8),
-        5 => digest = drawn_value(random),
+        5 => digest = drawn_value(random).into_iter().skip(1).collect(),
         _ => {}
     }
     let path = pages.concat();
@@ -356,7 +357,7 @@ fn change_page(random: &mut Random, root: &mut Page) {
                     keys.swap(entry, 0);
                     page.spell(&keys);
                 }
-                _ => page.entries[entry].value = [random.below(256) as u8; 32],
+                _ => page.entries[entry].value = filled(random.below(256) as u8),
             }
         }
     }

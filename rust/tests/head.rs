@@ -6,19 +6,20 @@ use crate::common::forge::{faulty_registers, one_record, Page, EMPTY};
 use crate::common::heads::{draw_untrue, head_for, head_of, untrue_heads, Heads, UNTRUE, ZEROS};
 use crate::common::lists::{out_length, Source};
 use crate::common::sets::{
-    parts, published_trees, rows_of_few_layers, set, set_of_layers, sets_to, small_sets, Kind,
-    COUNTS, HIGH, KINDS,
+    parts, published_trees, rows_of_few_layers, set, set_of_layers, sets_to, small_sets, value,
+    Kind, COUNTS, HIGH, KINDS,
 };
+use crate::common::values::{filled, library_value, GREATEST, LEAST};
 use crate::common::writes::{
     compare_call, compare_call_with, expect_outcome, expect_refusal, expect_refusal_with,
     expect_table, written, Call,
 };
 use crate::common::{hexadecimal, Random};
-use independent::{layer, pages, sha256, table, Set};
+use independent::{layer, pages, sha256, table, Set, Value};
 use mijdegen::{check, join, merge, put, remove, Head, Refusal};
 use std::collections::HashSet;
 
-const VALUE: [u8; 32] = [0x11; 32];
+const VALUE: Value = Value::dag_cbor([0x11; 32]);
 
 /// Gives the head of the set from what it is made of.
 fn by_hand(set: &Set) -> Head {
@@ -33,7 +34,8 @@ fn by_hand(set: &Set) -> Head {
 /// Gives the four calls that take a head, each with something that changes the set, in which this
 /// key is present.
 fn calls_on(set: &Set, key: &[u8]) -> [Call; 4] {
-    let value = set[key].map(|byte| byte ^ 0x80);
+    let mut value = set[key];
+    value.digest[0] ^= 0x80;
     let second = Set::from([(b"zz/zz".to_vec(), VALUE)]);
     [
         Call::put(key, &value),
@@ -203,8 +205,8 @@ fn present_keys() {
             let same = [
                 Call::put(key, value),
                 Call::join(key, value),
-                Call::join(key, &[0; 32]),
-                Call::merge(&table(&Set::from([(key.clone(), [0; 32])]))),
+                Call::join(key, &LEAST),
+                Call::merge(&table(&Set::from([(key.clone(), LEAST)]))),
             ];
             for call in same {
                 let (heads, length) = (Heads::stay(head), register.len());
@@ -214,7 +216,8 @@ fn present_keys() {
 
             let mut after = head;
             let mut out = vec![0; register.len()];
-            let length = put(&register, &mut after, key, &[0xff; 32], &mut out);
+            let greatest = library_value(&GREATEST);
+            let length = put(&register, &mut after, key, &greatest, &mut out);
             assert_eq!(length, Ok(register.len()), "{kind:?}");
             assert_eq!((after.count, after.layer), (head.count, head.layer));
             assert_ne!(after.digest, head.digest);
@@ -238,7 +241,8 @@ fn the_root_rises_and_falls() {
     let mut layers = HashSet::new();
     let mut out = vec![0; 100_000];
     for key in &keys {
-        let length = put(&register, &mut head, key, &set[*key], &mut out).expect("room");
+        let value = library_value(&set[*key]);
+        let length = put(&register, &mut head, key, &value, &mut out).expect("room");
         register = out[..length].to_vec();
         grown.insert(key.to_vec(), set[*key]);
         assert_eq!(head, by_hand(&grown));
@@ -283,7 +287,8 @@ fn the_last_key_of_the_top_layer() {
         }
         // It is put again, and the root rises.
         let (mut head, mut out) = (by_hand(&low), vec![0; register.len()]);
-        put(&table(&low), &mut head, key.as_bytes(), &VALUE, &mut out).expect("room");
+        let value = library_value(&VALUE);
+        put(&table(&low), &mut head, key.as_bytes(), &value, &mut out).expect("room");
         assert_eq!(head, by_hand(&with), "{key}");
     }
     assert_eq!(cases, HIGH.len() * 6);
@@ -426,18 +431,15 @@ fn lists_that_carry_the_head() {
     assert_eq!(counts.iter().sum::<usize>(), KINDS.len() * 5 * 100);
     assert!(counts[17] > 300, "{}", counts[17]);
     assert!(counts[0] > 1_000, "{}", counts[0]);
-    for number in [7, 11, 12, 13] {
+    for number in [7, 12, 13] {
         assert!(counts[number] > 50, "number {number}: {}", counts[number]);
     }
 }
 
-/// Draws a put, a join, a removal or a merge.
+/// Draws a put, a join, a removal or a merge that the safe functions can be handed.
 fn drawn_call(random: &mut Random, source: &Source, set: &Set) -> Call {
     let key = source.key(random, set);
-    let value = match random.below(8) {
-        0 => random.bytes(31),
-        _ => random.bytes(32),
-    };
+    let value = value(random);
     match random.below(4) {
         0 => Call::put(&key, &value),
         1 => Call::join(&key, &value),
@@ -522,12 +524,13 @@ fn a_head_in_a_record_of_the_caller() {
         head: check(&EMPTY).expect("the empty register"),
         name: [0xbb; 3],
     };
+    let [value, greater] = [VALUE, filled(0x22)].map(|value| library_value(&value));
     assert_eq!(
-        put(&EMPTY, &mut drawer.head, b"a/b1", &VALUE, &mut out),
+        put(&EMPTY, &mut drawer.head, b"a/b1", &value, &mut out),
         Ok(64)
     );
     assert_eq!(
-        join(&out, &mut drawer.head, b"a/b1", &[0x22; 32], &mut next),
+        join(&out, &mut drawer.head, b"a/b1", &greater, &mut next),
         Ok(64)
     );
     assert_eq!(check(&next), Ok(drawer.head));

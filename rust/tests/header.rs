@@ -30,6 +30,7 @@ fn in_rust(parameter: &str) -> String {
         ("const uint8_t *", "", "*const u8"),
         ("uint8_t *", "", "*mut u8"),
         ("uint8_t ", "[MIJDEGEN_DIGEST_LENGTH]", "*mut [u8; 32]"),
+        ("uint8_t ", "[MIJDEGEN_VALUE_BYTES]", "*mut [u8; 33]"),
         ("struct mijdegen_head *", "", "*mut Head"),
         ("size_t ", "", "usize"),
         ("uint64_t ", "", "u64"),

@@ -6,6 +6,7 @@ use crate::common::paths::expect_path;
 use crate::common::sets::{
     collections, just_before, part, screens_of, set, value, Kind, FULL_KINDS,
 };
+use crate::common::values::{filled, GREATEST, LEAST};
 use crate::common::writes::{compare_call, expect_refusal, expect_table, expect_table_and, Call};
 use crate::common::Random;
 use independent::{layer, merge_in, table, Set, LONGEST};
@@ -55,14 +56,14 @@ fn present_keys() {
             let register = table(&set);
             let key = set.keys().nth(count / 3).expect("a key").clone();
             // The value is greater than each random one.
-            set.insert(key.clone(), [0xff; 32]);
+            set.insert(key.clone(), GREATEST);
             let greater = table(&set);
-            for call in [Call::put(&key, &[0xff; 32]), Call::join(&key, &[0xff; 32])] {
+            for call in [Call::put(&key, &GREATEST), Call::join(&key, &GREATEST)] {
                 expect_table(&register, &call, greater.len(), &greater);
                 expect_refusal(&register, &call, greater.len() - 1, 13);
                 cases += 2;
             }
-            let less = Call::join(&key, &[0; 32]);
+            let less = Call::join(&key, &LEAST);
             expect_table(&greater, &less, greater.len() + 9, &greater);
             cases += 1;
         }
@@ -312,9 +313,9 @@ fn as_many_records_as_short_registers_have() {
         let second = table(&part(&all, |n| n >= 300 - count));
         let [first, next] = [count / 2, count].map(|n| all.keys().nth(n).expect("a key"));
         for call in [
-            Call::put(b"a/-", &[0x77; 32]),
-            Call::put(next, &[0x77; 32]),
-            Call::join(first, &[0xff; 32]),
+            Call::put(b"a/-", &filled(0x76)),
+            Call::put(next, &filled(0x77)),
+            Call::join(first, &GREATEST),
             Call::remove(first),
             Call::run(b"a/-", first),
             Call::merge(&second),

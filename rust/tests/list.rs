@@ -3,6 +3,7 @@
 use crate::common::calls::{compare_list, mijdegen_list, raw_list};
 use crate::common::forge::EMPTY;
 use crate::common::sets::{set, sets_to, Kind, KINDS};
+use crate::common::values::library_value;
 use independent::table;
 use mijdegen::{list, Listed, Refusal, LONGEST, LONGEST_KEY};
 use std::ptr;
@@ -22,13 +23,13 @@ fn each_record() {
                 let found = raw_list(&mut register.clone(), n as u64, length + more);
                 assert_eq!(found.0, 256 * length as u64, "{kind:?} {n}");
                 assert!(found.1 == expected, "{kind:?} {n}");
-                assert_eq!(found.2, *value, "{kind:?} {n}");
+                assert_eq!(found.2, value.bytes(), "{kind:?} {n}");
                 cases += 1;
             }
             // 4 outputs without room.
             for short in [length - 1, length - 2, 1, 0] {
                 let found = raw_list(&mut register.clone(), n as u64, short);
-                assert_eq!(found, (13, vec![0; short], [0; 32]), "{kind:?} {n}");
+                assert_eq!(found, (13, vec![0; short], [0; 33]), "{kind:?} {n}");
                 cases += 1;
             }
         }
@@ -48,7 +49,7 @@ fn each_record_by_the_safe_function() {
                 let mut out = vec![0xaa; length];
                 let expected = Listed {
                     key_length,
-                    value: *value,
+                    value: library_value(value),
                 };
                 assert_eq!(list(&register, n, &mut out), Ok(Some(expected)), "{kind:?}");
                 assert_eq!(out[..key_length], **key);
@@ -85,7 +86,7 @@ fn records_of_large_registers() {
                 let found = list(&register, n, &mut out);
                 let expected = Listed {
                     key_length: key.len(),
-                    value: *value,
+                    value: library_value(value),
                 };
                 assert_eq!(found, Ok(Some(expected)), "{kind:?} {n}");
                 assert_eq!(out[..key.len()], **key, "{kind:?} {n}");
@@ -112,8 +113,9 @@ fn all_records_in_turn() {
             records.push((out[..listed.key_length].to_vec(), listed.value));
         }
         assert_eq!(records.len(), 500);
-        let expected: Vec<_> = set.into_iter().collect();
-        assert!(records == expected, "{kind:?}");
+        let expected = set.into_iter();
+        let expected = expected.map(|(key, value)| (key, library_value(&value)));
+        assert!(records.into_iter().eq(expected), "{kind:?}");
     }
 }
 
@@ -143,7 +145,7 @@ fn past_the_end() {
         for n in numbers {
             for length in [0, 1, 3, 256, 300] {
                 let found = raw_list(&mut register.clone(), n, length);
-                assert_eq!(found, (0, vec![0; length], [0; 32]), "{kind:?} {n}");
+                assert_eq!(found, (0, vec![0; length], [0; 33]), "{kind:?} {n}");
                 cases += 1;
             }
         }
@@ -180,7 +182,7 @@ fn refused_registers() {
             for length in [0, 3, 256, 300] {
                 assert_eq!(compare_list(register, n, length), Err(number));
                 let found = raw_list(&mut register.to_vec(), n, length);
-                assert_eq!(found, (u64::from(number), vec![0; length], [0; 32]));
+                assert_eq!(found, (u64::from(number), vec![0; length], [0; 33]));
                 cases += 1;
             }
         }
@@ -213,31 +215,31 @@ fn a_very_long_output() {
         assert_eq!(key_length == 0, n == 3);
     }
     let (answer, out, value) = raw_list(&mut register[1..].to_vec(), 0, length);
-    assert_eq!((answer, value), (3, [0; 32]));
+    assert_eq!((answer, value), (3, [0; 33]));
     assert!(out.iter().all(|byte| *byte == 0));
 }
 
 #[test]
 fn raw_call_does_not_touch_empty_buffers() {
-    let mut value = [0xaa; 32];
+    let mut value = [0xaa; 33];
     let register = table(&set(Kind::Ordinary, 1));
     // SAFETY: A buffer of length 0 is neither read nor written, and the others are whole.
     unsafe {
         let answer = mijdegen_list(ptr::null(), 0, 0, ptr::null_mut(), 0, &mut value);
-        assert_eq!((answer, value), (2, [0; 32]));
+        assert_eq!((answer, value), (2, [0; 33]));
 
         value.fill(0xaa);
         let lent = register.as_ptr();
         let answer = mijdegen_list(lent, register.len(), 0, ptr::null_mut(), 0, &mut value);
-        assert_eq!((answer, value), (13, [0; 32]));
+        assert_eq!((answer, value), (13, [0; 33]));
 
         value.fill(0xaa);
         let answer = mijdegen_list(lent, register.len(), 1, ptr::null_mut(), 0, &mut value);
-        assert_eq!((answer, value), (0, [0; 32]));
+        assert_eq!((answer, value), (0, [0; 33]));
 
         value.fill(0xaa);
         let empty = EMPTY.as_ptr();
         let answer = mijdegen_list(empty, EMPTY.len(), 0, ptr::null_mut(), 0, &mut value);
-        assert_eq!((answer, value), (0, [0; 32]));
+        assert_eq!((answer, value), (0, [0; 33]));
     }
 }

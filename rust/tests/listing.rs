@@ -3,9 +3,10 @@
 //! The text is made from the set that the independent crate reads, and not by the library.
 
 use crate::common::calls::shown;
-use crate::common::forge::{faulty_registers, one_record, EMPTY};
+use crate::common::forge::{faulty_registers, one_drawing, one_record, EMPTY};
 use crate::common::hexadecimal;
 use crate::common::sets::{long_keys_in_turn, part, set, Kind, KINDS};
+use crate::common::values::filled;
 use independent::{layer, pages, table};
 use std::io::{ErrorKind, Write};
 use std::path::Path;
@@ -63,7 +64,7 @@ fn text_for(input: &[u8]) -> Vec<u8> {
     for (key, value) in &set {
         text.extend(key);
         text.push(b' ');
-        text.extend(hexadecimal(value).bytes());
+        text.extend(hexadecimal(&value.bytes()).bytes());
         text.push(b'\n');
     }
     text
@@ -103,7 +104,7 @@ fn register_of_length(length: usize) -> Vec<u8> {
         .find(|set| table(set).len() + 200 <= length)
         .expect("the empty set is short enough");
     let rest = length - table(&set).len() - 54;
-    set.insert(last_key(rest), [0x11; 32]);
+    set.insert(last_key(rest), filled(0x11));
     let register = table(&set);
     assert_eq!(register.len(), length);
     register
@@ -124,8 +125,11 @@ fn last_key(length: usize) -> Vec<u8> {
 
 #[test]
 fn sample() {
-    let text = "records 1\na/b1 1111111111111111111111111111111111111111111111111111111111111111\n";
-    assert_eq!(expect_records(&one_record(), 1), text.as_bytes());
+    let digest = "1111111111111111111111111111111111111111111111111111111111111111";
+    for (register, codec) in [(one_record(), "71"), (one_drawing(), "55")] {
+        let text = format!("records 1\na/b1 {codec}{digest}\n");
+        assert_eq!(expect_records(&register, 1), text.as_bytes());
+    }
 }
 
 #[test]
@@ -183,8 +187,8 @@ fn long_text() {
     let register = table(&long_keys_in_turn(&[0], 950));
     assert!(register.len() <= LONGEST_INPUT, "{}", register.len());
     let text = expect_records(&register, 950);
-    // Each record's line has 256 bytes for the key, 64 for the value, a space and a line feed.
-    assert_eq!(text.len(), "records 950\n".len() + 950 * 322);
+    // Each record's line has 256 bytes for the key, 66 for the value, a space and a line feed.
+    assert_eq!(text.len(), "records 950\n".len() + 950 * 324);
 }
 
 #[test]

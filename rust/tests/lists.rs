@@ -4,9 +4,10 @@
 use crate::common::forge::EMPTY;
 use crate::common::lists::{full_set, Counts, List, Source};
 use crate::common::sets::{part, set, value, Kind, FULL_KINDS, KINDS};
+use crate::common::values::LEAST;
 use crate::common::writes::{written, Call};
 use crate::common::Random;
-use independent::{layer, table, Set};
+use independent::{layer, table, Set, Value};
 
 /// Adds the counts of one list to those of others.
 fn add(counts: &mut Counts, more: Counts) {
@@ -80,7 +81,7 @@ fn lists_of_calls_on_full_registers() {
 /// Puts or joins the records one after the other, in a random order.
 fn one_by_one(
     random: &mut Random,
-    call: fn(&[u8], &[u8]) -> Call,
+    call: fn(&[u8], &Value) -> Call,
     start: &[u8],
     records: &Set,
 ) -> Vec<u8> {
@@ -140,7 +141,7 @@ fn one_register_for_each_set() {
                 .keys()
                 .map(|key| (key.clone(), value(&mut random)))
                 .collect();
-            let zeros: Set = set.keys().map(|key| (key.clone(), [0; 32])).collect();
+            let least: Set = set.keys().map(|key| (key.clone(), LEAST)).collect();
             let more = draw(&mut random, 20);
 
             let mut ways = vec![
@@ -153,7 +154,7 @@ fn one_register_for_each_set() {
             // Other values that are put over, and lesser ones that are joined over.
             let start = one_by_one(&mut random, Call::put, &EMPTY, &other_values);
             ways.push(one_by_one(&mut random, Call::put, &start, &set));
-            let start = one_by_one(&mut random, Call::put, &EMPTY, &zeros);
+            let start = one_by_one(&mut random, Call::put, &EMPTY, &least);
             ways.push(one_by_one(&mut random, Call::join, &start, &set));
             // More records, which are removed.
             let start = one_by_one(&mut random, Call::put, &EMPTY, &more);

@@ -1,19 +1,20 @@
 //! `lookup` and `lookup_place` against the independent crate and against the sets themselves.
 
 use crate::common::calls::{compare_lookup, mijdegen_lookup, raw_lookup};
-use crate::common::forge::{one_record, EMPTY, LINK};
+use crate::common::forge::{link_with, one_record, EMPTY};
 use crate::common::sets::{keys_near, keys_with, set, sets_to, unlawful_keys, Kind, KINDS};
+use crate::common::values::{filled, library_value};
 use crate::common::Random;
 use independent::{lawful, table, Set};
-use mijdegen::{lookup, lookup_place, Refusal, LONGEST};
+use mijdegen::{lookup, lookup_place, Refusal, Value, LONGEST};
 use std::ptr;
 
 /// What lookup gives by the set: 7 for an unlawful key, 12 for an absent one, else the value.
-fn by_set<'a>(set: &'a Set, key: &[u8]) -> Result<&'a [u8; 32], Refusal> {
+fn by_set(set: &Set, key: &[u8]) -> Result<Value, Refusal> {
     if !lawful(key) {
         return Err(Refusal::UnlawfulKey);
     }
-    set.get(key).ok_or(Refusal::KeyAbsent)
+    set.get(key).map(library_value).ok_or(Refusal::KeyAbsent)
 }
 
 #[test]
@@ -23,10 +24,10 @@ fn each_present_key() {
         let register = table(&set);
         for (key, value) in &set {
             let place = compare_lookup(&register, key).expect("the key is present");
-            assert_eq!(lookup(&register, key), Ok(value), "{kind:?}");
-            assert_eq!(register[place..place + 32], *value, "{kind:?}");
-            // The nine bytes of the link stand before the value.
-            assert_eq!(register[place - 9..place], *LINK);
+            assert_eq!(lookup(&register, key), by_set(&set, key), "{kind:?}");
+            // Nine bytes of the link stand before the digest.
+            let link = link_with(value.codec.byte(), &value.digest);
+            assert_eq!(register[place - 9..place + 32], link, "{kind:?}");
             cases += 1;
         }
     }
@@ -42,14 +43,14 @@ fn present_keys_of_large_registers() {
             let register = table(&set);
             // Keys all over the register, with the first and the last.
             let records: Vec<_> = set.iter().collect();
-            for (key, value) in records.iter().step_by(step) {
-                assert_eq!(lookup(&register, key), Ok(*value), "{kind:?}");
+            for (key, _) in records.iter().step_by(step) {
+                assert_eq!(lookup(&register, key), by_set(&set, key), "{kind:?}");
                 cases += 1;
             }
             // The place of the last, which stands on a step.
             let (key, value) = records[count - 1];
             let place = lookup_place(&register, key).expect("the key is present");
-            assert_eq!(register[place..place + 32], *value, "{kind:?}");
+            assert_eq!(register[place..place + 32], value.digest, "{kind:?}");
             compare_lookup(&register, key).expect("the key is present");
         }
     }
@@ -164,7 +165,8 @@ fn lengths_over_32_bits() {
     let mut key = vec![0; (1 << 32) + 4];
     key[..4].copy_from_slice(b"a/b1");
     assert_eq!(lookup(&register, &key), Err(Refusal::UnlawfulKey));
-    assert_eq!(lookup(&register, &key[..4]), Ok(&[0x11; 32]));
+    let value = Value::dag_cbor([0x11; 32]);
+    assert_eq!(lookup(&register, &key[..4]), Ok(value));
     drop(key);
 
     let mut long = vec![0; (1 << 32) + register.len()];
@@ -176,7 +178,8 @@ fn lengths_over_32_bits() {
 #[test]
 fn the_key_may_lie_in_the_register() {
     let register = one_record();
-    assert_eq!(lookup(&register, &register[8..12]), Ok(&[0x11; 32]));
+    let value = Value::dag_cbor([0x11; 32]);
+    assert_eq!(lookup(&register, &register[8..12]), Ok(value));
     assert_eq!(lookup(&register, &register[8..11]), Err(Refusal::KeyAbsent));
     assert_eq!(lookup(&register, &register), Err(Refusal::UnlawfulKey));
 }
@@ -185,7 +188,7 @@ fn the_key_may_lie_in_the_register() {
 #[test]
 fn equal_values() {
     let mut set = set(Kind::Ordinary, 100);
-    set.values_mut().for_each(|value| *value = [0x22; 32]);
+    set.values_mut().for_each(|value| *value = filled(0x22));
     let register = table(&set);
     let mut places: Vec<usize> = set
         .keys()
@@ -208,13 +211,13 @@ fn values_that_look_like_keys() {
     .iter()
     .enumerate()
     {
-        let mut value = [0; 32];
-        value[..bytes.len()].copy_from_slice(bytes);
+        let mut value = filled(0);
+        value.digest[..bytes.len()].copy_from_slice(bytes);
         set.insert(format!("a/b{number}").into_bytes(), value);
     }
     let register = table(&set);
-    for (key, value) in &set {
-        assert_eq!(lookup(&register, key), Ok(value));
+    for key in set.keys() {
+        assert_eq!(lookup(&register, key), by_set(&set, key));
         compare_lookup(&register, key).expect("the key is present");
     }
     assert_eq!(compare_lookup(&register, b"a/b5"), Err(12));

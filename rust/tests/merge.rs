@@ -7,6 +7,7 @@ use crate::common::lists::Source;
 use crate::common::sets::{
     part, parts, rows_of_few_layers, set, set_of_layers, sets_to, value, KINDS,
 };
+use crate::common::values::filled;
 use crate::common::writes::{compare_lengths, expect_table, written, Call};
 use crate::common::Random;
 use independent::{merge_in, set_of, table, Set};
@@ -234,8 +235,8 @@ fn laws_on_large_registers() {
 #[test]
 fn one_register_may_lie_in_the_other() {
     // A value that is the empty register and more: 7 bytes of the second register are the first.
-    let mut value = [0x11; 32];
-    value[..7].copy_from_slice(&EMPTY);
+    let mut value = filled(0x11);
+    value.digest[..7].copy_from_slice(&EMPTY);
     let set = Set::from([(b"a/b1".to_vec(), value)]);
     let register = table(&set);
     let (mut head, mut out) = (head_of(&Set::new()), [0xaa; 64]);

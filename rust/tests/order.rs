@@ -5,13 +5,14 @@ use crate::common::forge::{faulty_registers, one_record, EMPTY};
 use crate::common::heads::{head_for, three_untrue, Heads, ZEROS};
 use crate::common::neighbours::{expect_neighbour, Neighbour, NEIGHBOURS};
 use crate::common::sets::{set, Kind};
+use crate::common::values::wrong_values;
 use crate::common::writes::{
     expect_refusal, expect_refusal_with, expect_table_and, expect_table_with, Call,
 };
-use independent::{table, Set};
+use independent::{table, Set, Value};
 use mijdegen::Head;
 
-const VALUE: [u8; 32] = [0x11; 32];
+const VALUE: Value = Value::dag_cbor([0x11; 32]);
 
 /// Expects the first number that is due, or the table where there is none. Gives the number, or 0.
 fn expect_first(
@@ -121,12 +122,12 @@ fn at_or_after_and_before() {
             ] {
                 for (out_length, no_room) in [(4, None), (9, None), (3, Some(13)), (0, Some(13))] {
                     let due = [number, due_on_key, no_room];
-                    let (mut output, mut value) = (vec![0; out_length], [0; 32]);
+                    let (mut output, mut value) = (vec![0; out_length], [0; 33]);
                     let expected = match due.iter().flatten().next() {
                         Some(number) => Err(*number),
                         None => {
                             output[..4].copy_from_slice(b"a/b1");
-                            value = VALUE;
+                            value = VALUE.bytes();
                             Ok(4)
                         }
                     };
@@ -199,14 +200,16 @@ fn put_and_join() {
                 (b"a/.", Some(7)),
                 (b"", Some(7)),
             ] {
-                for (value, other_length) in [
-                    (&VALUE[..], None),
-                    (&VALUE[..31], Some(11)),
+                for (value, wrong) in [
+                    (&VALUE.bytes()[..], None),
+                    (&VALUE.bytes()[..32], Some(11)),
+                    (&[0x71; 34], Some(11)),
+                    (&[0x54; 33], Some(11)),
                     (b"", Some(11)),
                 ] {
                     for (length, no_room) in [(64, None), (63, Some(13)), (0, Some(13))] {
-                        let due = [number, untrue, unlawful, other_length, count, no_room];
-                        for call in [Call::put(key, value), Call::join(key, value)] {
+                        let due = [number, untrue, unlawful, wrong, count, no_room];
+                        for call in [Call::put_bytes(key, value), Call::join_bytes(key, value)] {
                             let one = one_record();
                             let found =
                                 expect_first_with(&register, head, &call, length, &due, &one);
@@ -218,9 +221,11 @@ fn put_and_join() {
             }
         }
     }
-    assert_eq!(cases, (10 + 2) * 5 * 4 * 3 * 3 * 2);
+    assert_eq!(cases, (10 + 2) * 5 * 4 * 5 * 3 * 2);
     // Four heads of the two accepted registers are untrue, whatever else is handed over.
-    assert_eq!(counts[17], 2 * 4 * 4 * 3 * 3 * 2);
+    assert_eq!(counts[17], 2 * 4 * 4 * 5 * 3 * 2);
+    // Of these registers a lawful key with one of four wrong values.
+    assert_eq!(counts[11], 2 * 4 * 3 * 2);
     assert_eq!((counts[0], counts[13]), (2, 2 * 2));
 }
 
@@ -404,11 +409,13 @@ fn the_count_between_its_neighbours() {
     let full = table(&full_set);
     let room = full.len() + 1_000;
     // 11 before 5, and 5 before 13.
-    for call in [
-        Call::put(b"a/b1", &VALUE[1..]),
-        Call::join(b"a/b1", &VALUE[1..]),
-    ] {
-        expect_refusal(&full, &call, room, 11);
+    for value in wrong_values() {
+        for call in [
+            Call::put_bytes(b"a/b1", &value),
+            Call::join_bytes(b"a/b1", &value),
+        ] {
+            expect_refusal(&full, &call, room, 11);
+        }
     }
     for call in [Call::put(b"a/b1", &VALUE), Call::join(b"a/b1", &VALUE)] {
         expect_refusal(&full, &call, room, 5);

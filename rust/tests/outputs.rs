@@ -8,12 +8,13 @@ use crate::common::forge::{one_record, EMPTY};
 use crate::common::heads::{head_for, head_of, SurroundedHead, UNTRUE};
 use crate::common::neighbours::NEIGHBOURS;
 use crate::common::sets::{collection_of, part, screens_of, set, set_of_layers, Kind};
+use crate::common::values::library_value;
 use crate::common::writes::{expect_refusal, expect_table_and, Call};
-use independent::{table, Set, LONGEST};
+use independent::{table, Set, Value, LONGEST};
 use mijdegen::{difference, join, merge, path, put, remove, run, screen, Listed, Refusal, Screen};
 use std::ptr;
 
-const VALUE: [u8; 32] = [0x11; 32];
+const VALUE: Value = Value::dag_cbor([0x11; 32]);
 
 /// A call with its register, its result and the second number of its answer, 0 where there is none.
 type Case = (Vec<u8>, Call, Vec<u8>, usize);
@@ -101,6 +102,7 @@ fn any_address() {
     let alone = table(&part(&set, |n| n == 4));
     let record = |n: usize| set.iter().nth(n).expect("there are 10");
     let ((key, value), previous, next) = (record(4), record(3), record(5));
+    let value = library_value(value);
     let collection = collection_of(key);
     let shown = table(&screens_of(&set, collection)[0]);
     let opened = Call::path(key).result(set.clone()).expect("a lawful key");
@@ -109,19 +111,17 @@ fn any_address() {
     for offset in 0..16 {
         // 3 bytes that stand around them; the last could be the start of a page.
         for around in [0x00, 0xff, 0xa2] {
-            let [register, key, value, second, collection] =
-                [&others[..], key, value, &whole, collection]
-                    .map(|bytes| [&vec![around; offset][..], bytes, &[around; 16]].concat());
-            let [register, key, value, second, collection] =
-                [&register, &key, &value, &second, &collection]
-                    .map(|buffer| &buffer[offset..buffer.len() - 16]);
+            let [register, key, second, collection] = [&others[..], key, &whole, collection]
+                .map(|bytes| [&vec![around; offset][..], bytes, &[around; 16]].concat());
+            let [register, key, second, collection] = [&register, &key, &second, &collection]
+                .map(|buffer| &buffer[offset..buffer.len() - 16]);
 
             let (mut head, mut out) = (head_of_others, vec![0xaa; whole.len()]);
-            let length = put(register, &mut head, key, value, &mut out);
+            let length = put(register, &mut head, key, &value, &mut out);
             assert_eq!((length, head), (Ok(whole.len()), head_of_whole));
             assert!(out == whole, "put at {offset}");
             head = head_of_others;
-            let length = join(register, &mut head, key, value, &mut out);
+            let length = join(register, &mut head, key, &value, &mut out);
             assert_eq!((length, head), (Ok(whole.len()), head_of_whole));
             assert!(out == whole, "join at {offset}");
             head = head_of_others;
@@ -151,7 +151,7 @@ fn any_address() {
             for (call, (beside, value)) in NEIGHBOURS.into_iter().zip([next, previous]) {
                 let listed = Listed {
                     key_length: beside.len(),
-                    value: *value,
+                    value: library_value(value),
                 };
                 out.resize(beside.len(), 0xaa);
                 assert_eq!(call.safe(register, key, &mut out), Ok(listed));
@@ -169,7 +169,7 @@ fn any_address() {
 #[test]
 fn lengths_over_32_bits() {
     let mut long = vec![0; (1 << 32) + 64];
-    let mut out = [0xaa; 64];
+    let (mut out, value) = ([0xaa; 64], library_value(&VALUE));
     let refused = |result: Result<usize, Refusal>, refusal: Refusal, out: &mut [u8; 64]| {
         assert_eq!(result, Err(refusal));
         assert_eq!(*out, [0; 64]);
@@ -193,7 +193,7 @@ fn lengths_over_32_bits() {
         &mut out,
     );
     for call in [put, join] {
-        let found = call(register, &mut of_none, b"a/b1", &VALUE, &mut out);
+        let found = call(register, &mut of_none, b"a/b1", &value, &mut out);
         refused(found, too_long, &mut out);
     }
     let found = remove(register, &mut of_none, b"a/b1", &mut out);
@@ -225,7 +225,7 @@ fn lengths_over_32_bits() {
         );
     }
     for call in [put, join] {
-        let found = call(&EMPTY, &mut of_empty, key, &VALUE, &mut out);
+        let found = call(&EMPTY, &mut of_empty, key, &value, &mut out);
         refused(found, unlawful, &mut out);
     }
     let found = remove(&one_record(), &mut of_one, key, &mut out);
@@ -235,11 +235,15 @@ fn lengths_over_32_bits() {
     let found = screen(&one_record(), collection, 0, &mut out).map(|found| found.length);
     refused(found, unlawful, &mut out);
 
-    let value = &long[..(1 << 32) + 32];
-    let other_length = Refusal::ValueLength;
-    for call in [put, join] {
-        let found = call(&EMPTY, &mut of_empty, b"a/b1", value, &mut out);
-        refused(found, other_length, &mut out);
+    // Such a value can be handed to the C functions alone.
+    long[0] = 0x71;
+    let (key, value) = (b"a/b1".as_ptr(), &long[..(1 << 32) + 33]);
+    for call in [mijdegen_put, mijdegen_join] {
+        let (head, reg, start) = (&mut of_empty, EMPTY.as_ptr(), out.as_mut_ptr());
+        // SAFETY: Each pointer has as many bytes as the library is told.
+        let answer = unsafe { call(reg, 7, head, key, 4, value.as_ptr(), value.len(), start, 64) };
+        assert_eq!((answer, out), (11, [0; 64]));
+        out.fill(0xaa);
     }
     assert_eq!([of_none, of_empty, of_one], heads);
 }
@@ -248,7 +252,8 @@ fn lengths_over_32_bits() {
 fn raw_calls_do_not_touch_empty_buffers() {
     let register = one_record();
     let (reg, reg_len) = (register.as_ptr(), register.len());
-    let (key, value) = (b"a/b1".as_ptr(), VALUE.as_ptr());
+    let value = VALUE.bytes();
+    let (key, value) = (b"a/b1".as_ptr(), value.as_ptr());
     let (none, no_out) = (ptr::null(), ptr::null_mut());
     let mut out = [0xaa; 64];
     let lent = head_for(&register);
@@ -260,9 +265,9 @@ fn raw_calls_do_not_touch_empty_buffers() {
             assert_eq!(call(none, 0, head, none, 0, none, 0, no_out, 0), 2);
             assert_eq!(call(reg, reg_len, head, none, 0, none, 0, no_out, 0), 7);
             assert_eq!(call(reg, reg_len, head, key, 4, none, 0, no_out, 0), 11);
-            assert_eq!(call(reg, reg_len, head, key, 4, value, 32, no_out, 0), 13);
+            assert_eq!(call(reg, reg_len, head, key, 4, value, 33, no_out, 0), 13);
             let (start, length) = (out.as_mut_ptr(), out.len());
-            assert_eq!(call(none, 0, head, key, 4, value, 32, start, length), 2);
+            assert_eq!(call(none, 0, head, key, 4, value, 33, start, length), 2);
             assert_eq!(out, [0; 64]);
             out.fill(0xaa);
         }

@@ -4,11 +4,12 @@ use crate::common::sets::{
     long_keys_in_turn, of_layer, one_page_below_high, ordinary_of_layer, part, rows_of_few_layers,
     set, set_of_layers, Kind, HIGH, KINDS,
 };
+use crate::common::values::filled;
 use crate::common::writes::{compare_lengths, expect_table, written, Call};
 use crate::common::Random;
-use independent::{layer, pages, table, Set};
+use independent::{layer, pages, table, Set, Value};
 
-const VALUE: [u8; 32] = [0x77; 32];
+const VALUE: Value = Value::raw([0x77; 32]);
 
 /// Gives the highest layer of a set with records.
 fn highest(set: &Set) -> u8 {
@@ -242,7 +243,7 @@ fn keys_that_begin_with_one_another() {
         .map(|length| {
             let mut key = vec![b'k'; length];
             key[1] = b'/';
-            (key, [length as u8; 32])
+            (key, filled(length as u8))
         })
         .collect();
     assert!(pages(&set).len() > 30);

@@ -8,6 +8,7 @@ use crate::common::sets::{
     one_page_below_high, published_trees, rows_of_few_layers, set, set_of_layers, sets_to,
     unlawful_keys, value, Kind, HIGH, KINDS,
 };
+use crate::common::values::{filled, library_value};
 use crate::common::writes::{compare_call, compare_lengths, expect_refusal, expect_table, Call};
 use crate::common::Random;
 use independent::{lawful, layer, pages, table, Set};
@@ -31,7 +32,8 @@ fn expect_all_paths(set: &Set) -> [usize; 20] {
         if n % 7 == 0 {
             assert!(compare_lengths(&register, &call) == Ok(path));
         }
-        assert_eq!(lookup(&register, &key).ok(), set.get(&key));
+        let value = set.get(&key).map(library_value);
+        assert_eq!(lookup(&register, &key).ok(), value);
         present += usize::from(set.contains_key(&key));
         lengths[root.path(&key).len()] += 1;
     }
@@ -128,7 +130,7 @@ fn chains_of_pages_without_entries() {
     for (count, keys) in [(10, &HIGH[..]), (1_000, &HIGH[..4])] {
         for high in keys.iter().map(|key| key.as_bytes()) {
             let mut set = one_page_below_high(count);
-            set.insert(high.to_vec(), [0x77; 32]);
+            set.insert(high.to_vec(), filled(0x77));
             let register = table(&set);
             let root = Page::of_set(&set);
             let root = root.written();

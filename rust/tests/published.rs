@@ -43,7 +43,7 @@ fn by_puts_and_joins() {
             for call in [Call::put, Call::join] {
                 let mut register = EMPTY.to_vec();
                 for (key, value) in &order {
-                    let found = compare_lengths(&register, &call(key, &value[..]));
+                    let found = compare_lengths(&register, &call(key, value));
                     register = found.expect("there is room");
                 }
                 expect_root(&register, &set, root);

@@ -1,18 +1,21 @@
 //! `put` and `join` against the independent crate and against the sets themselves.
 
+use crate::common::calls::{mijdegen_join, mijdegen_put};
 use crate::common::forge::{one_record, EMPTY};
 use crate::common::heads::head_for;
 use crate::common::sets::{
     keys_near, keys_with, part, set, set_of_layers, sets_to, unlawful_keys, Kind, KINDS,
 };
+use crate::common::values::{filled, other_codec, unusual_values, value_at, GREATEST, LEAST};
 use crate::common::writes::{
     compare_call, compare_lengths, expect_refusal, expect_table, written, Call,
 };
 use crate::common::Random;
-use independent::{lawful, lookup, table, Set};
+use independent::{lawful, lookup, table, Set, Value};
+use mijdegen::Refusal;
 
 /// The two calls with the same record.
-fn both(key: &[u8], value: &[u8]) -> [Call; 2] {
+fn both(key: &[u8], value: &Value) -> [Call; 2] {
     [Call::put(key, value), Call::join(key, value)]
 }
 
@@ -21,18 +24,18 @@ fn rows_of_the_scope() {
     let longest = [&[b'a'; 100][..], b"/", &[b'b'; 155]].concat();
     assert_eq!(longest.len(), 256);
     let mut cases = 0;
-    for call in both(b"a/b1", &[0x11; 32]) {
+    for call in both(b"a/b1", &filled(0x11)) {
         expect_table(&EMPTY, &call, 64, &one_record());
         expect_table(&EMPTY, &call, 65, &one_record());
         expect_refusal(&EMPTY, &call, 63, 13);
         cases += 3;
     }
-    for call in both(&longest, &[0x11; 32]) {
+    for call in both(&longest, &filled(0x11)) {
         // 252 bytes of the key more than `a/b1` has, and 2 more for the length.
         assert_eq!(compare_call(&EMPTY, &call, 400), Ok(64 + 252 + 2));
         cases += 1;
     }
-    for call in both(&[&longest[..], b"b"].concat(), &[0x11; 32]) {
+    for call in both(&[&longest[..], b"b"].concat(), &filled(0x11)) {
         expect_refusal(&EMPTY, &call, 400, 7);
         cases += 1;
     }
@@ -67,7 +70,7 @@ fn present_keys() {
     for (kind, set) in sets_to(10) {
         let register = table(&set);
         for (key, value) in &set {
-            for other in [[0x00; 32], [0xff; 32], *value] {
+            for other in [LEAST, GREATEST, *value, other_codec(value)] {
                 let mut changed = set.clone();
                 changed.insert(key.clone(), other);
                 let found = compare_lengths(&register, &Call::put(key, &other));
@@ -80,7 +83,7 @@ fn present_keys() {
             }
         }
     }
-    assert_eq!(cases, KINDS.len() * (1 + 2 + 3 + 10) * 6);
+    assert_eq!(cases, KINDS.len() * (1 + 2 + 3 + 10) * 8);
 }
 
 /// Keys that differ little from present ones.
@@ -93,7 +96,7 @@ fn keys_near_present_ones() {
         for key in set.keys() {
             for near in keys_near(&mut random, key) {
                 let expected = if lawful(&near) { None } else { Some(7) };
-                for call in both(&near, &[0x77; 32]) {
+                for call in both(&near, &filled(0x76)) {
                     let found = compare_lengths(&register, &call);
                     assert_eq!(found.as_ref().err(), expected.as_ref());
                     done += usize::from(found.is_ok());
@@ -121,9 +124,9 @@ fn keys_into_larger_registers() {
         }
         for key in keys {
             let mut changed = set.clone();
-            changed.insert(key.clone(), [0x77; 32]);
+            changed.insert(key.clone(), filled(0x76));
             let expected = table(&changed);
-            for call in both(&key, &[0x77; 32]) {
+            for call in both(&key, &filled(0x76)) {
                 expect_table(&register, &call, expected.len(), &expected);
                 cases += 1;
             }
@@ -132,10 +135,11 @@ fn keys_into_larger_registers() {
     assert_eq!(cases, KINDS.len() * (2 + 4) * 2);
 }
 
-/// Two values that differ at one place, where the bytes behind it say the opposite.
+/// Two values that differ at one place of the digest, where the bytes behind it and the codec say
+/// the opposite.
 #[test]
 fn the_greater_value_byte_by_byte() {
-    let register_with = |value: &[u8; 32]| {
+    let register_with = |value: &Value| {
         let mut set = set_of_layers(&[0, 1, 0]);
         let key = set.keys().nth(1).expect("there are 3").clone();
         set.insert(key.clone(), *value);
@@ -144,12 +148,12 @@ fn the_greater_value_byte_by_byte() {
     let mut cases = 0;
     for place in 0..32 {
         for (lesser_byte, greater_byte) in [(0, 1), (0x7f, 0x80), (0xfe, 0xff), (0, 0xff)] {
-            let mut lesser = [0x55; 32];
-            let mut greater = lesser;
-            lesser[place] = lesser_byte;
-            greater[place] = greater_byte;
-            lesser[place + 1..].fill(0xff);
-            greater[place + 1..].fill(0x00);
+            let mut lesser = Value::dag_cbor([0x55; 32]);
+            let mut greater = Value::raw([0x55; 32]);
+            lesser.digest[place] = lesser_byte;
+            greater.digest[place] = greater_byte;
+            lesser.digest[place + 1..].fill(0xff);
+            greater.digest[place + 1..].fill(0x00);
 
             let (with_lesser, key) = register_with(&lesser);
             let (with_greater, _) = register_with(&greater);
@@ -171,25 +175,35 @@ fn the_greater_value_byte_by_byte() {
     assert_eq!(cases, 32 * 4 * 5);
 }
 
+/// Values of other lengths, with each codec first, and each other byte in the place of the codec.
 #[test]
-fn values_of_other_lengths() {
+fn wrong_values() {
     let registers = [
         EMPTY.to_vec(),
         one_record(),
         table(&set(Kind::Ordinary, 10)),
     ];
-    let lengths = (0..=100).filter(|length| *length != 32);
+    let lengths = (0..=100).filter(|length| *length != 33);
+    let lengths = lengths.chain([256 + 33, 65_536 + 33, 4_194_304, 4_194_337]);
+    let of_lengths = lengths.flat_map(|length| [vec![0x55; length], vec![0x71; length]]);
+    let no_codecs = (0..=255).filter(|byte| *byte != 0x55 && *byte != 0x71);
+    let of_no_codec = no_codecs.map(|byte| vec![byte; 33]);
     let mut cases = 0;
-    for length in lengths.chain([256 + 32, 65_536 + 32, 4_194_304, 4_194_336]) {
-        let value = vec![0x11; length];
+    for value in of_lengths.chain(of_no_codec) {
         for register in &registers {
-            for call in both(b"a/b1", &value) {
-                assert_eq!(compare_call(register, &call, 70), Err(11), "{length}");
+            for call in [
+                Call::put_bytes(b"a/b1", &value),
+                Call::join_bytes(b"a/b1", &value),
+            ] {
+                assert_eq!(compare_call(register, &call, 70), Err(11), "{call:?}");
                 cases += 1;
             }
         }
+        // The safe functions cannot be handed such bytes.
+        let refused = mijdegen::Value::try_from(&value[..]);
+        assert_eq!(refused, Err(Refusal::WrongValue));
     }
-    assert_eq!(cases, (100 + 4) * 3 * 2);
+    assert_eq!(cases, ((100 + 4) * 2 + 254) * 3 * 2);
 }
 
 #[test]
@@ -198,7 +212,7 @@ fn unlawful_keys_are_refused() {
     for (_, set) in sets_to(3) {
         let register = table(&set);
         for key in unlawful_keys() {
-            for call in both(&key, &[0x11; 32]) {
+            for call in both(&key, &filled(0x11)) {
                 expect_refusal(&register, &call, 100, 7);
                 cases += 1;
             }
@@ -214,7 +228,7 @@ fn each_byte_of_a_key() {
     let mut cases = 0;
     for byte in 0..=255_u8 {
         for key in keys_with(byte) {
-            for call in both(&key, &[0x77; 32]) {
+            for call in both(&key, &filled(0x76)) {
                 let found = compare_call(&register, &call, 1_000);
                 assert_eq!(found.is_ok(), lawful(&key), "{key:?}");
                 assert!(found.is_ok() || found == Err(7), "{key:?}");
@@ -235,18 +249,18 @@ fn each_length_of_keys() {
     };
     let mut cases = 0;
     for length in 3..=256 {
-        let call = Call::put(&key(length), &[length as u8; 32]);
+        let call = Call::put(&key(length), &filled(length as u8));
         compare_lengths(&EMPTY, &call).expect("the key is lawful");
         cases += 1;
     }
     let all: Set = (3..=256)
-        .map(|length| (key(length), [length as u8; 32]))
+        .map(|length| (key(length), filled(length as u8)))
         .collect();
     for falling in [false, true] {
         let mut register = EMPTY.to_vec();
         for step in 0..254 {
             let length = if falling { 256 - step } else { 3 + step };
-            let call = Call::put(&key(length), &[length as u8; 32]);
+            let call = Call::put(&key(length), &filled(length as u8));
             register = written(&register, &call);
             cases += 1;
         }
@@ -277,38 +291,46 @@ fn each_count_of_entries() {
 /// Values of every kind are written as they are, also those that look like parts of a page.
 #[test]
 fn every_value_is_taken() {
-    let mut values = [[0x00; 32], [0xff; 32], [0xf6; 32], [0xa2; 32], [0; 32]];
-    values[4][..7].copy_from_slice(&EMPTY);
     let register = table(&set_of_layers(&[0, 1, 0, 2]));
     let mut cases = 0;
-    for value in values {
+    for value in unusual_values() {
         for call in both(b"a/b1", &value) {
             let found = compare_lengths(&register, &call).expect("there is room");
             let place = lookup(&found, b"a/b1").expect("the key is present");
-            assert_eq!(found[place..place + 32], value);
+            assert_eq!(value_at(&found, place), value);
             cases += 1;
         }
     }
-    assert_eq!(cases, 5 * 2);
+    assert_eq!(cases, 10 * 2);
 }
 
 /// The key and the value may be parts of the register, since all of them are only read.
 #[test]
 fn the_key_and_the_value_may_lie_in_the_register() {
     let register = one_record();
-    let (key, value) = (&register[8..12], &register[29..61]);
-    let (mut head, mut out) = (head_for(&register), [0xaa; 64]);
-    let length = mijdegen::put(&register, &mut head, key, value, &mut out);
-    assert_eq!(length, Ok(64));
-    assert_eq!(out[..], register);
-    // The value is the last bytes of the link and the next ones. It is less than the one that is
-    // there, since it begins with 00.
-    let value = &register[24..56];
-    let length = mijdegen::join(&register, &mut head, key, value, &mut out);
-    assert_eq!(length, Ok(64));
-    assert_eq!(out[..], register);
-    let length = mijdegen::put(&register, &mut head, key, value, &mut out);
-    assert_eq!(length, Ok(64));
-    assert_eq!(out[29..61], *value);
-    assert_eq!(head, head_for(&out));
+    // The value is the codec and the bytes behind it. It is greater than the one that is there,
+    // since its digest begins with 12.
+    let (key, value) = (&register[8..12], &register[26..59]);
+    for call in [mijdegen_put, mijdegen_join] {
+        let (mut head, mut out) = (head_for(&register), [0xaa; 64]);
+        // SAFETY: Each pointer has as many bytes as the library is told. The inputs may share them,
+        // and the head and the output are no part of them.
+        let answer = unsafe {
+            call(
+                register.as_ptr(),
+                register.len(),
+                &mut head,
+                key.as_ptr(),
+                key.len(),
+                value.as_ptr(),
+                value.len(),
+                out.as_mut_ptr(),
+                out.len(),
+            )
+        };
+        assert_eq!(answer, 256 * 64);
+        assert_eq!(out[26], value[0]);
+        assert_eq!(out[29..61], value[1..]);
+        assert_eq!(head, head_for(&out));
+    }
 }

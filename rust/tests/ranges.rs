@@ -9,6 +9,7 @@ use crate::common::sets::{
     part, rows_of_few_layers, set, set_of_layers, sets_to, unlawful_keys, value, Kind, FULL_KINDS,
     HIGH, KINDS,
 };
+use crate::common::values::{filled, library_value, unusual_values};
 use crate::common::writes::{
     compare_call, compare_lengths, expect_refusal, expect_table, written, Call,
 };
@@ -107,7 +108,7 @@ fn each_present_key() {
             let mut out = [0xaa; LONGEST_KEY];
             let listed = Listed {
                 key_length: key.len(),
-                value: **value,
+                value: library_value(value),
             };
             assert_eq!(
                 at_or_after(&register, key, &mut out),
@@ -232,7 +233,7 @@ fn keys_that_begin_with_one_another() {
     for step in [1, 3] {
         let lengths = (3..=LONGEST_KEY).step_by(step);
         let set: Set = lengths
-            .map(|length| (key_of_length(length), [length as u8; 32]))
+            .map(|length| (key_of_length(length), filled(length as u8)))
             .collect();
         let register = table(&set);
         for length in 3..=LONGEST_KEY {
@@ -343,7 +344,8 @@ fn every_length_of_the_output() {
 
     // An output longer than the longest register has zeros to its end.
     let register = one_record();
-    let record: Result<_, u8> = Ok((&b"a/b1"[..], &[0x11; 32]));
+    let value = filled(0x11);
+    let record: Result<_, u8> = Ok((&b"a/b1"[..], &value));
     for out_length in [LONGEST, LONGEST + 1_000] {
         expect_record(&register, Neighbour::AtOrAfter, b"a/b1", out_length, record);
         expect_record(&register, Neighbour::Before, b"a/b2", out_length, record);
@@ -357,7 +359,9 @@ fn all_records_in_turn() {
     for kind in [Kind::Ordinary, Kind::Chains] {
         let set = set(kind, 300);
         let register = table(&set);
-        let expected: Vec<_> = set.into_iter().collect();
+        let expected = set.into_iter();
+        let expected = expected.map(|(key, value)| (key, library_value(&value)));
+        let expected: Vec<_> = expected.collect();
 
         let mut out = [0; LONGEST_KEY];
         let (mut records, mut key) = (Vec::new(), least_key());
@@ -395,7 +399,7 @@ fn the_calls_agree() {
             let present = lookup(&register, &key);
             assert_eq!(present.is_ok(), next_key.as_ref() == Ok(&key), "{kind:?}");
             if let Ok(value) = present {
-                assert_eq!(next.map(|found| found.value), Ok(*value));
+                assert_eq!(next.map(|found| found.value), Ok(value));
             }
 
             let from_here = written(&register, &Call::run(&key, &greatest_key()));
@@ -505,7 +509,7 @@ fn equal_keys() {
 fn runs_of_keys_that_begin_with_one_another() {
     let lengths = (3..=LONGEST_KEY).step_by(2);
     let set: Set = lengths
-        .map(|length| (key_of_length(length), [length as u8; 32]))
+        .map(|length| (key_of_length(length), filled(length as u8)))
         .collect();
     let register = table(&set);
     let (mut cases, mut refused) = (0, 0);
@@ -637,7 +641,7 @@ fn what_is_written_is_read_back() {
                     .expect("accepted")
                     .expect("a record");
                 assert_eq!(key_out[..listed.key_length], **key, "{kind:?}");
-                assert_eq!(listed.value, *value, "{kind:?}");
+                assert_eq!(listed.value, library_value(value), "{kind:?}");
                 records += 1;
             }
             assert_eq!(list(&out, expected.len(), &mut key_out), Ok(None));
@@ -708,13 +712,11 @@ fn runs_that_follow_one_another() {
 #[test]
 fn every_value_is_taken() {
     let mut random = Random::new(115);
-    let mut values = [[0x00; 32], [0xff; 32], [0xf6; 32], [0xa2; 32], [0; 32]];
-    values[4][..7].copy_from_slice(&EMPTY);
     let mut set = set_of_layers(&[0, 1, 0, 2, 0, 0, 1, 0]);
-    for place in 0..set.len() {
+    for (place, unusual) in unusual_values().into_iter().enumerate() {
         for (n, old) in set.values_mut().enumerate() {
-            *old = match n == place {
-                true => values[place % 5],
+            *old = match n == place % 8 {
+                true => unusual,
                 false => value(&mut random),
             };
         }
@@ -799,7 +801,7 @@ fn refused_registers() {
 fn first_keys_after_the_last() {
     let set: Set = [&b"a/b"[..], b"a/b1", b"a/b10", b"a/b2", b"b/a"]
         .iter()
-        .map(|key| (key.to_vec(), [0x11; 32]))
+        .map(|key| (key.to_vec(), filled(0x11)))
         .collect();
     let register = table(&set);
     let pairs: [(&[u8], &[u8]); 10] = [
@@ -842,7 +844,7 @@ fn the_keys_may_lie_in_the_register() {
     let mut out = [0xaa; 64];
     let listed = Listed {
         key_length: 4,
-        value: [0x11; 32],
+        value: library_value(&filled(0x11)),
     };
     assert_eq!(at_or_after(&register, key, &mut out), Ok(listed));
     assert_eq!(before(&register, key, &mut out), Err(Refusal::KeyAbsent));
@@ -862,13 +864,13 @@ fn raw_calls_do_not_touch_empty_buffers() {
     let (reg, reg_len) = (register.as_ptr(), register.len());
     let (key, later) = (b"a/b1".as_ptr(), b"a/b2".as_ptr());
     let (none, no_out) = (ptr::null(), ptr::null_mut());
-    let mut value = [0xaa; 32];
+    let mut value = [0xaa; 33];
     // SAFETY: A buffer of length 0 is neither read nor written, and the others are whole.
     unsafe {
         for call in [mijdegen_at_or_after, mijdegen_before] {
             let mut refused = |reg, reg_len, key, key_len, number| {
                 let answer = call(reg, reg_len, key, key_len, no_out, 0, &mut value);
-                assert_eq!((answer, value), (number, [0; 32]));
+                assert_eq!((answer, value), (number, [0; 33]));
                 value.fill(0xaa);
             };
             refused(none, 0, none, 0, 2);
@@ -877,10 +879,10 @@ fn raw_calls_do_not_touch_empty_buffers() {
             refused(EMPTY.as_ptr(), 7, key, 4, 12);
         }
         let found = mijdegen_at_or_after(reg, reg_len, key, 4, no_out, 0, &mut value);
-        assert_eq!((found, value), (13, [0; 32]));
+        assert_eq!((found, value), (13, [0; 33]));
         value.fill(0xaa);
         let found = mijdegen_before(reg, reg_len, later, 4, no_out, 0, &mut value);
-        assert_eq!((found, value), (13, [0; 32]));
+        assert_eq!((found, value), (13, [0; 33]));
 
         assert_eq!(mijdegen_run(none, 0, none, 0, none, 0, no_out, 0), 2);
         assert_eq!(mijdegen_run(none, 0, key, 4, key, 4, no_out, 0), 2);

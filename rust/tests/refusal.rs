@@ -1,6 +1,6 @@
 //! The names and numbers of the refusals.
 
-use mijdegen::{Refusal, LONGEST, LONGEST_KEY, LONGEST_SCREEN, PER_SCREEN};
+use mijdegen::{Codec, Refusal, LONGEST, LONGEST_KEY, LONGEST_SCREEN, PER_SCREEN, VALUE_BYTES};
 use std::collections::HashSet;
 use std::error::Error;
 
@@ -16,7 +16,7 @@ const REFUSALS: [(Refusal, u8, &str); 17] = [
     (Refusal::KeysNotRising, 8, "MIJDEGEN_KEYS_NOT_RISING"),
     (Refusal::WrongTree, 9, "MIJDEGEN_WRONG_TREE"),
     (Refusal::WrongDigest, 10, "MIJDEGEN_WRONG_DIGEST"),
-    (Refusal::ValueLength, 11, "MIJDEGEN_VALUE_LENGTH"),
+    (Refusal::WrongValue, 11, "MIJDEGEN_WRONG_VALUE"),
     (Refusal::KeyAbsent, 12, "MIJDEGEN_KEY_ABSENT"),
     (Refusal::NoRoom, 13, "MIJDEGEN_NO_ROOM"),
     (Refusal::FirstAfterLast, 14, "MIJDEGEN_FIRST_AFTER_LAST"),
@@ -74,10 +74,15 @@ fn the_header_has_the_same_numbers() {
     for (name, number) in [
         ("LONGEST", LONGEST),
         ("LONGEST_KEY", LONGEST_KEY),
+        ("VALUE_BYTES", VALUE_BYTES),
         ("PER_SCREEN", PER_SCREEN),
         ("LONGEST_SCREEN", LONGEST_SCREEN),
     ] {
         let defined = format!("#define MIJDEGEN_{name} {number}");
+        assert!(header.lines().any(|line| line == defined), "{name}");
+    }
+    for (name, codec) in [("RAW", Codec::Raw), ("DAG_CBOR", Codec::DagCbor)] {
+        let defined = format!("#define MIJDEGEN_{name} 0x{:02x}", codec.byte());
         assert!(header.lines().any(|line| line == defined), "{name}");
     }
 }
@@ -86,6 +91,7 @@ fn the_header_has_the_same_numbers() {
 fn the_longest_lengths() {
     assert_eq!(LONGEST, 4_194_304);
     assert_eq!(LONGEST_KEY, 256);
+    assert_eq!(VALUE_BYTES, 33);
     assert_eq!(PER_SCREEN, 8);
     assert_eq!(LONGEST_SCREEN, 65_536);
 }

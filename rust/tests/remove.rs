@@ -3,6 +3,7 @@
 use crate::common::forge::{one_record, EMPTY};
 use crate::common::heads::head_for;
 use crate::common::sets::{keys_near, part, set, sets_to, unlawful_keys, Kind, HIGH, KINDS};
+use crate::common::values::filled;
 use crate::common::writes::{compare_lengths, expect_refusal, expect_table, written, Call};
 use crate::common::Random;
 use independent::{lawful, table, tree_of};
@@ -166,7 +167,7 @@ fn put_and_removed_again() {
             if set.contains_key(key) {
                 continue;
             }
-            let more = written(&register, &Call::put(key, &[0x77; 32]));
+            let more = written(&register, &Call::put(key, &filled(0x77)));
             assert!(more != register, "{kind:?}");
             assert!(written(&more, &Call::remove(key)) == register, "{kind:?}");
             cases += 1;

@@ -7,12 +7,15 @@ use crate::common::sets::{
     rows_of_few_layers, screens_of, set, set_of_layers, sets_to, unlawful_keys, value, Kind, HIGH,
     KINDS, NEAR_COLLECTIONS,
 };
+use crate::common::values::{filled, library_value};
 use crate::common::writes::{
     compare_call, compare_lengths, expect_refusal, expect_table_and, written, Call,
 };
 use crate::common::Random;
 use independent::{layer, table, Set};
-use mijdegen::{list, screen, Refusal, Screen, LONGEST, LONGEST_KEY, LONGEST_SCREEN, PER_SCREEN};
+use mijdegen::{
+    list, screen, Refusal, Screen, Value, LONGEST, LONGEST_KEY, LONGEST_SCREEN, PER_SCREEN,
+};
 
 /// Counts of records around the eights, each with the number of screens.
 const COUNTS: [(usize, usize); 7] = [(0, 1), (1, 1), (7, 1), (8, 1), (9, 2), (16, 2), (17, 3)];
@@ -254,14 +257,16 @@ fn all_screens_in_turn() {
         all += records.len();
         // Collections are in another order than their keys.
         records.sort();
-        assert!(records.into_iter().eq(set), "{kind:?}");
+        let expected = set.iter();
+        let expected = expected.map(|(key, value)| (key.clone(), library_value(value)));
+        assert!(records.into_iter().eq(expected), "{kind:?}");
     }
     assert_eq!(all, KINDS.len() * (1 + 2 + 3 + 10 + 100) + 2 * 1_000);
     assert!(shown > 500, "{shown}");
 }
 
 /// Adds the records of a register in key order. A screen has at most 8.
-fn add_records(register: &[u8], records: &mut Vec<(Vec<u8>, [u8; 32])>) {
+fn add_records(register: &[u8], records: &mut Vec<(Vec<u8>, Value)>) {
     let count = count_of(register).expect("accepted");
     assert!(count <= PER_SCREEN);
     for n in 0..count {
@@ -364,7 +369,7 @@ fn judged(collection: &[u8]) -> bool {
         if lawful {
             let mut set = independent::set_of(&register).expect("accepted");
             let without = expect_screens(&register, &set, collection);
-            set.insert(key.clone(), [0x22; 32]);
+            set.insert(key.clone(), filled(0x22));
             let with = expect_screens(&table(&set), &set, collection);
             assert_eq!(with, [without[0] + 1]);
         } else {
@@ -411,7 +416,7 @@ fn collections_of_each_length() {
     for byte in 0..=255 {
         let key = [&collection[..], b"/", &[byte]].concat();
         if compare_slash(&key) == Ok(254) {
-            set.insert(key, [byte; 32]);
+            set.insert(key, filled(byte));
         }
     }
     let counts = expect_screens(&table(&set), &set, &collection);

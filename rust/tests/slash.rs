@@ -12,6 +12,7 @@ use crate::common::sets::{
     dot_name_keys, dotted_keys, greatest_key, keys_near, keys_with, least_key, set,
     short_unlawful_keys, unlawful_keys, KINDS,
 };
+use crate::common::values::filled;
 use crate::common::writes::Call;
 use crate::common::Random;
 use independent::{sha256, table, Set, LONGEST_KEY};
@@ -327,7 +328,7 @@ fn the_other_calls_agree() {
             let found = call.safe(&EMPTY, key, &mut []).map_err(Refusal::number);
             assert_eq!(found.err(), due.or(Some(12)), "{call:?} {key:?}");
         }
-        let value = [0x11; 32];
+        let value = filled(0x11);
         for (call, without_room) in [
             (Call::run(key, key), 13),
             (Call::put(key, &value), 13),

@@ -5,12 +5,13 @@ use crate::common::forge::{
 };
 use crate::common::heads::{in_library, Heads};
 use crate::common::lists::{full_set, List};
-use crate::common::neighbours::{expect_neighbour, Neighbour, NEIGHBOURS};
+use crate::common::neighbours::{expect_neighbour, listed_record, Neighbour, NEIGHBOURS};
 use crate::common::paths::{expect_verdict, Verdict};
 use crate::common::sets::{
     collection_of, greatest_key, just_after, just_before, least_key, long_keys_in_turn,
     one_page_below_high, part, screens_of, set, Kind, FULL_KINDS, HIGH, KINDS,
 };
+use crate::common::values::{filled, library_value, value_at};
 use crate::common::writes::{expect_outcome, length_in, Call};
 use crate::common::Random;
 use independent::table;
@@ -55,7 +56,7 @@ fn call_with_small_stack(register: Vec<u8>, key: &[u8], n: usize) -> u8 {
     let before_slash = independent::slash(key);
     let head = independent::check(&register).map(in_library);
     let place = independent::lookup(&register, key);
-    let (mut key_out, mut value) = ([0; 256], [0; 32]);
+    let (mut key_out, mut value) = ([0; 256], [0; 33]);
     let length = independent::list(&register, n as u64, &mut key_out, &mut value);
 
     for call in NEIGHBOURS {
@@ -65,8 +66,8 @@ fn call_with_small_stack(register: Vec<u8>, key: &[u8], n: usize) -> u8 {
     for first in [key, &least_key()] {
         write_with_small_stack(&register, Call::run(first, &greatest_key()), room);
     }
-    write_with_small_stack(&register, Call::put(key, &[0x77; 32]), room);
-    write_with_small_stack(&register, Call::join(key, &[0x77; 32]), room);
+    write_with_small_stack(&register, Call::put(key, &filled(0x76)), room);
+    write_with_small_stack(&register, Call::join(key, &filled(0x77)), room);
     write_with_small_stack(&register, Call::remove(key), room);
     write_with_small_stack(&register, Call::merge(&register), room);
     write_with_small_stack(&EMPTY, Call::merge(&register), room);
@@ -91,17 +92,16 @@ fn call_with_small_stack(register: Vec<u8>, key: &[u8], n: usize) -> u8 {
         let mut out = [0xaa; 256];
         let before_slash = slash(&key).map_err(Refusal::number);
         let head = check(&register).map_err(Refusal::number);
-        let found = lookup(&register, &key).map_err(Refusal::number).copied();
+        let found = lookup(&register, &key).map_err(Refusal::number);
         let listed = list(&register, n, &mut out).map_err(Refusal::number);
-        let listed = listed.map(|listed| listed.map(|listed| (listed.key_length, listed.value)));
         (before_slash, head, found, listed, out, register)
     });
     let (found_before_slash, found_head, found, listed, out, register) = found;
     assert_eq!(found_before_slash, before_slash);
     assert_eq!(found_head, head);
-    let expected = place.map(|place| register[place..place + 32].to_vec());
-    assert_eq!(found.map(Vec::from), expected);
-    let expected = length.map(|length| Some((length, value)).filter(|_| length > 0));
+    let expected = place.map(|place| library_value(&value_at(&register, place)));
+    assert_eq!(found, expected);
+    let expected = length.map(|length| (length > 0).then(|| listed_record(length, &value)));
     assert_eq!(listed, expected);
     assert_eq!(out, key_out);
     head.err().unwrap_or(0)
@@ -110,7 +110,7 @@ fn call_with_small_stack(register: Vec<u8>, key: &[u8], n: usize) -> u8 {
 /// Gives the record beside the key on a small stack.
 fn neighbour_with_small_stack(register: &[u8], call: Neighbour, key: &[u8]) {
     // The expected result is made outside the small stack.
-    let (mut output, mut value) = ([0; 256], [0; 32]);
+    let (mut output, mut value) = ([0; 256], [0; 33]);
     let expected = call.independent(register, key, &mut output, &mut value);
     let (register, key) = (register.to_vec(), key.to_vec());
     with_small_stack(move || {
@@ -296,7 +296,7 @@ fn the_deepest_results() {
 
     let key = HIGH[0].as_bytes();
     let mut with = low;
-    with.insert(key.to_vec(), [0x77; 32]);
+    with.insert(key.to_vec(), filled(0x77));
     let parted = table(&with);
     // The runs on both sides of the key are one page each, and those with it have 17.
     let (before, after) = (just_before(key), just_after(key));
@@ -330,7 +330,7 @@ fn the_deepest_results() {
     for n in [own - 1, own, own + 1] {
         write_with_small_stack(&parted, Call::screen(collection, n), parted.len());
     }
-    let put = Call::put(key, &[0x77; 32]);
+    let put = Call::put(key, &filled(0x77));
     assert!(write_with_small_stack(&one_page, put, parted.len()) == parted);
     assert!(write_with_small_stack(&parted, Call::remove(key), one_page.len()) == one_page);
 }

@@ -6,9 +6,10 @@ use crate::common::lists::{damaged, List, Source};
 use crate::common::neighbours::NEIGHBOURS;
 use crate::common::paths::expect_verdict;
 use crate::common::sets::{collections, greatest_key, least_key, screens_of, set, value, Kind};
+use crate::common::values::library_value;
 use crate::common::writes::{expect_outcome, Call};
 use crate::common::Random;
-use independent::{table, Set};
+use independent::{table, Set, Value};
 use mijdegen::{check, digest, layer, list, lookup_place, slash, Head, Listed, Refusal};
 use std::thread;
 
@@ -205,14 +206,17 @@ fn case(random: &mut Random, count: usize) -> (Vec<u8>, Vec<u8>, Results) {
         let results = (Err(refused), Err(refused), (Err(refused), [0; 40]), beside);
         return (register, key, results);
     }
-    let place = independent::lookup(&register, &key).map_err(|_| Refusal::KeyAbsent);
-    let given = |record: Option<(&Vec<u8>, &[u8; 32])>| {
+    let place = independent::lookup(&register, &key);
+    let place = place
+        .map(|(place, _)| place)
+        .map_err(|_| Refusal::KeyAbsent);
+    let given = |record: Option<(&Vec<u8>, &Value)>| {
         let mut out = [0; 40];
         let listed = record.map(|(key, value)| {
             out[..key.len()].copy_from_slice(key);
             Listed {
                 key_length: key.len(),
-                value: *value,
+                value: library_value(value),
             }
         });
         (listed, out)

@@ -13,10 +13,14 @@ use crate::common::sets::{
     just_after, just_before, keys_and_neighbours, numbered_keys, set, set_of_layers,
     short_unlawful_keys, small_sets, unlawful_keys, Kind, KINDS,
 };
+use crate::common::values::{filled, library_value};
 use crate::common::Random;
-use independent::{lawful, sha256, Set};
+use independent::{lawful, sha256, Codec, Set, Value};
 use mijdegen::{verify, Presence, Refusal, LONGEST};
 use std::ptr;
+
+/// The value of every entry in pages that are forged from keys alone.
+const VALUE: Value = Value::dag_cbor([0x11; 32]);
 
 /// A path as it is sent, with the key that is sought and the root digest.
 struct Sent {
@@ -170,7 +174,7 @@ fn other_pages() {
     for kind in KINDS {
         let set = set(kind, 100);
         let mut other = set.clone();
-        other.values_mut().for_each(|value| value[31] ^= 1);
+        other.values_mut().for_each(|value| value.digest[31] ^= 1);
         let (root, other) = (Page::of_set(&set), Page::of_set(&other));
         for key in keys_and_neighbours(&set).iter().step_by(23) {
             let sent = Sent::from(&root, key);
@@ -359,7 +363,7 @@ fn arguments_before_pages() {
                 let due = [*long, unlawful, other_length, pages];
                 let expected = match due.iter().flatten().next() {
                     Some(number) => Err(*number),
-                    None => Ok(Some(29)),
+                    None => Ok(Some((29, Codec::DagCbor))),
                 };
                 assert_eq!(compare_verify(path, key, root), expected);
                 counts[usize::from(expected.err().unwrap_or(0))] += 1;
@@ -525,11 +529,11 @@ fn depth() {
     for depth in [1, 2, 3, 127, 128, 129, 130, 131, 200] {
         let last = format!("chain/{:03}.000", depth - 1).into_bytes();
         for (chain, key, value) in [
-            (left_chain(depth), &b"a/b1"[..], Some([0x11; 32])),
+            (left_chain(depth), &b"a/b1"[..], Some(VALUE)),
             (left_chain(depth), b"a/b0", None),
             (left_chain(depth), b"a/b2", None),
-            (right_chain(depth, 1), &last, Some([0x11; 32])),
-            (right_chain(depth, 3), &last, Some([0x11; 32])),
+            (right_chain(depth, 1), &last, Some(VALUE)),
+            (right_chain(depth, 3), &last, Some(VALUE)),
             (right_chain(depth, 3), b"d/b", None),
         ] {
             let sent = Sent::from(&chain, key);
@@ -796,7 +800,7 @@ fn trees_of_other_keys() {
     ] {
         let sent = Sent::from(root, key);
         assert_eq!(sent.pages.len(), pages);
-        let value = present.then_some(&[0x11; 32]);
+        let value = present.then_some(&VALUE);
         expect_presence(&sent.path(), key, &sent.root, value);
     }
     // A link that leads to no page matters only on the way.
@@ -804,7 +808,7 @@ fn trees_of_other_keys() {
     open.entries[1].after = link_to(Page::default());
     open.entries[1].after.as_mut().expect("a link").flip[0] = 1;
     let sent = Sent::from(&open, b"a/b2");
-    expect_presence(&sent.path(), b"a/b2", &sent.root, Some(&[0x11; 32]));
+    expect_presence(&sent.path(), b"a/b2", &sent.root, Some(&VALUE));
     let sent = Sent::from(&open, b"a/b3");
     assert_eq!(sent.judged(&sent.path()), Err(16));
 }
@@ -821,7 +825,7 @@ fn the_widest_page() {
     let root = page.written();
     for n in [0, 1, 4_096, 30_000, last] {
         let after = just_after(&keys[n]).expect("a short key");
-        for (key, value) in [(&keys[n], Some(&[0x11; 32])), (&after, None)] {
+        for (key, value) in [(&keys[n], Some(&VALUE)), (&after, None)] {
             let path = root.path(key).concat();
             expect_presence(&path, key, &root.digest, value);
             let followed = [&path[..], &[0]].concat();
@@ -862,7 +866,7 @@ fn the_longest_paths() {
     let sent = Sent::from(&Page::of_all(&keys), &keys[40_000]);
     let path = sent.path();
     assert_eq!(path.len(), LONGEST);
-    expect_presence(&path, &sent.key, &sent.root, Some(&[0x11; 32]));
+    expect_presence(&path, &sent.key, &sent.root, Some(&VALUE));
     expect_presence(&path, b"a/b1", &sent.root, None);
     expect_verdict(&[&path[..], &[0]].concat(), &sent.key, &sent.root, Err(1));
 
@@ -922,9 +926,9 @@ fn numbers_in_pages() {
 fn the_arguments_may_lie_in_the_path() {
     let register = one_record();
     let root = sha256(&register);
-    let value = [0x11; 32];
+    let value = library_value(&VALUE);
     let found = verify(&register, &register[8..12], &root);
-    assert_eq!(found, Ok(Presence::Present(&value)));
+    assert_eq!(found, Ok(Presence::Present(value)));
     let found = verify(&register, &register[8..11], &root);
     assert_eq!(found, Ok(Presence::Absent));
     // The left link's digest is that of the page behind it, which is a path by itself.
@@ -948,7 +952,8 @@ fn any_address() {
                     .map(|bytes| [&vec![around; offset][..], bytes, &[around; 16]].concat());
                 let [path, key, root] =
                     [&path, &key, &root].map(|buffer| &buffer[offset..buffer.len() - 16]);
-                assert_eq!(verify(path, key, root), Ok(Presence::Present(value)));
+                let present = Presence::Present(library_value(value));
+                assert_eq!(verify(path, key, root), Ok(present));
             }
         }
     }
@@ -969,7 +974,7 @@ fn lengths_over_32_bits() {
     assert_eq!(verify(&register, key, &root), Err(Refusal::UnlawfulKey));
     long[..32].copy_from_slice(&root);
     let root = &long[..(1 << 32) + 32];
-    assert_eq!(verify(&register, b"a/b1", root), Err(Refusal::ValueLength));
+    assert_eq!(verify(&register, b"a/b1", root), Err(Refusal::WrongValue));
 }
 
 #[test]
@@ -985,7 +990,7 @@ fn raw_call_does_not_read_empty_inputs() {
         assert_eq!(mijdegen_verify(path, path_len, key, 4, none, 0), 11);
         assert_eq!(mijdegen_verify(none, 0, key, 4, root.as_ptr(), 32), 2);
         let found = mijdegen_verify(path, path_len, key, 4, root.as_ptr(), 32);
-        assert_eq!(found, 256 * 29);
+        assert_eq!(found, 256 * (29 + (0x71 << 24)));
     }
 }
 
@@ -993,14 +998,15 @@ fn raw_call_does_not_read_empty_inputs() {
 #[test]
 fn equal_values() {
     let mut set: Set = set(Kind::OnePage, 100);
-    set.values_mut().for_each(|value| *value = [0x22; 32]);
+    set.values_mut().for_each(|value| *value = filled(0x22));
     let root = Page::of_set(&set);
     let mut places: Vec<usize> = set
         .keys()
         .map(|key| {
             let sent = Sent::from(&root, key);
-            let place = sent.judged(&sent.path()).expect("accepted");
-            place.expect("the key is present")
+            let verdict = sent.judged(&sent.path()).expect("accepted");
+            let (place, _) = verdict.expect("the key is present");
+            place
         })
         .collect();
     places.sort();

@@ -6,7 +6,7 @@ use native.Mathlib.Omega.{arith}
 use lib.Dec.{eqb}
 use borrow.Author.Tests.{ne-eqb}
 use Rattle.answer.specs.declared.Refusal.{Refusal}
-use Rattle.answer.specs.declared.Refusal.the-variants.{TooLong, EndsEarly, Departs, BytesFollow, TooManyRecords, WrongPrefix, UnlawfulKey, KeysNotRising, WrongTree, WrongDigest, ValueLength, KeyAbsent, NoRoom, FirstAfterLast, NoSuchScreen, PageNotDue, UntrueHead}
+use Rattle.answer.specs.declared.Refusal.the-variants.{TooLong, EndsEarly, Departs, BytesFollow, TooManyRecords, WrongPrefix, UnlawfulKey, KeysNotRising, WrongTree, WrongDigest, WrongValue, KeyAbsent, NoRoom, FirstAfterLast, NoSuchScreen, PageNotDue, UntrueHead}
 use Rattle.answer.specs.declared.Answer.{Answer}
 use Rattle.answer.specs.declared.Answer.the-variants.{Done, Refused}
 use Rattle.answer.specs.declared.AnswerOfTwo.{AnswerOfTwo}
@@ -26,7 +26,7 @@ number-within UnlawfulKey = omega arith
 number-within KeysNotRising = omega arith
 number-within WrongTree = omega arith
 number-within WrongDigest = omega arith
-number-within ValueLength = omega arith
+number-within WrongValue = omega arith
 number-within KeyAbsent = omega arith
 number-within NoRoom = omega arith
 number-within FirstAfterLast = omega arith

@@ -5,7 +5,7 @@ use mathlib.Core.Bool.{cond}
 use mathlib.Core.List.{List, [], _∷_}
 use lib.Dec.{eqb}
 use Rattle.answer.specs.declared.Refusal.{Refusal}
-use Rattle.answer.specs.declared.Refusal.the-variants.{TooLong, EndsEarly, Departs, BytesFollow, TooManyRecords, WrongPrefix, UnlawfulKey, KeysNotRising, WrongTree, WrongDigest, ValueLength, KeyAbsent, NoRoom, FirstAfterLast, NoSuchScreen, PageNotDue, UntrueHead}
+use Rattle.answer.specs.declared.Refusal.the-variants.{TooLong, EndsEarly, Departs, BytesFollow, TooManyRecords, WrongPrefix, UnlawfulKey, KeysNotRising, WrongTree, WrongDigest, WrongValue, KeyAbsent, NoRoom, FirstAfterLast, NoSuchScreen, PageNotDue, UntrueHead}
 use Rattle.answer.specs.declared.Answer.{Answer}
 use Rattle.answer.specs.declared.Answer.the-variants.{Done, Refused}
 use Rattle.answer.specs.declared.AnswerOfTwo.{AnswerOfTwo}
@@ -21,7 +21,7 @@ use Rattle.answer.specs.declared.AnswerOfTwo.the-variants.{Both, Refused
 -- 8: a key is not greater than the key before it in tree order; in a path, than the key before it in its page.
 -- 9: the pages, their entries and their linked gaps are not those that the rules give for the same keys.
 -- 10: a link's digest is not that of its page.
--- 11: a value argument or a root digest is not 32 bytes.
+-- 11: a value argument is not 33 bytes with codec 55 or 71 first, or a root digest is not 32 bytes.
 -- 12: the key is absent, for lookup and remove; no record lies at or after the key, or before it.
 -- 13: the result's table (for a single record the key, for a path its pages) is longer than the output, or than 4,194,304 bytes.
 -- 14: a first key is greater than the last.
@@ -39,7 +39,7 @@ numberOf UnlawfulKey = 7
 numberOf KeysNotRising = 8
 numberOf WrongTree = 9
 numberOf WrongDigest = 10
-numberOf ValueLength = 11
+numberOf WrongValue = 11
 numberOf KeyAbsent = 12
 numberOf NoRoom = 13
 numberOf FirstAfterLast = 14
@@ -56,7 +56,7 @@ abbrev pub said : Answer → Said
 said (Done v) = doneWith (v ∷ [])
 said (Refused r) = refusedWith (numberOf r)
 
--- Some calls have two values: a table's length and a count beside it.
+-- Some calls have two values: a table's length and a count beside it, or a digest's place and a codec beside it.
 abbrev pub saidOfTwo : AnswerOfTwo → Said
 saidOfTwo (Both n count) = doneWith (n ∷ count ∷ [])
 saidOfTwo (BothRefused r) = refusedWith (numberOf r)
@@ -66,7 +66,7 @@ abbrev pub encoded : Answer → ℕ
 encoded (Done v) = 256 * v
 encoded (Refused r) = numberOf r
 
--- Of two values the second is multiplied by 2^24; the first, a table's length, is below that.
+-- Of two values the second is multiplied by 2^24; the first, a table's length or a place, is below that.
 abbrev pub encodedOfTwo : AnswerOfTwo → ℕ
 encodedOfTwo (Both n count) = 256 * (n + 2 ^ 24 * count)
 encodedOfTwo (BothRefused r) = numberOf r

@@ -15,7 +15,7 @@ pub enum Refusal {
     KeysNotRising,
     WrongTree,
     WrongDigest,
-    ValueLength,
+    WrongValue,
     KeyAbsent,
     NoRoom,
     FirstAfterLast,
@@ -30,7 +30,7 @@ pub enum Answer {
     Refused(Refusal),
 }
 
-// What a call with two values answers: a table's length and a count beside it, or the reason of a refusal.
+// What a call with two values answers: a table's length and a count beside it, or a digest's place and a codec; or the reason of a refusal.
 pub enum AnswerOfTwo {
     Both(u32, u32),
     Refused(Refusal),
@@ -51,7 +51,7 @@ pub fn number_of(refusal: Refusal) -> u64
         Refusal::KeysNotRising => 8,
         Refusal::WrongTree => 9,
         Refusal::WrongDigest => 10,
-        Refusal::ValueLength => 11,
+        Refusal::WrongValue => 11,
         Refusal::KeyAbsent => 12,
         Refusal::NoRoom => 13,
         Refusal::FirstAfterLast => 14,

@@ -1,4 +1,5 @@
 pub mod Weaving
 pub mod Sifting
+pub mod Values
 pub mod Choosing
 pub mod Turns

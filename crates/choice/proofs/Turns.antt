@@ -11,16 +11,18 @@ use borrow.Table.Steps.{cases}
 use Rattle.limits.specs.Limits.{most}
 use Rattle.bytestring.proofs.Equal.{equal-cases}
 use Rattle.bytestring.proofs.Tools.{All, all-append, part-taken}
-use Rattle.key.specs.Key.{less, order}
+use Rattle.key.specs.Key.{order}
 use Rattle.key.specs.declared.Order.{Order}
 use Rattle.key.specs.declared.Order.the-variants.{Less, Equal, Greater}
-use Rattle.key.proofs.Laws.{less-asymmetric, less-same, less-connected, order-less, order-equal, order-greater}
+use Rattle.key.proofs.Laws.{order-less, order-equal, order-greater}
 use Rattle.tree.specs.Record.{Record}
 use Rattle.row.specs.Row.{sourceOf, recordOfWord, Stands, Row, recordsOf}
 use Rattle.row.specs.Memory.{Recalls}
 use Rattle.row.proofs.Rows.{records-length}
-use Rattle.promises.specs.Map.{greater}
-use Rattle.choice.specs.Choice.{combined, ruleOf, combinedOf, choiceOf, siftedOf, valueAt, greaterWord, wordOf, keepsFirst, candidateOf, Kept, Held, heldKey, Readable, candidateAt, restEnd, AppendSays, RowOf, WithinSays}
+use Rattle.value.specs.Value.{valueIn}
+use Rattle.promises.specs.Map.{lessValue, greater}
+use Rattle.promises.proofs.ValueOrder.{value-connected, value-asymmetric, value-same}
+use Rattle.choice.specs.Choice.{combined, ruleOf, combinedOf, choiceOf, siftedOf, valueOrder, valueAt, greaterWord, wordOf, keepsFirst, candidateOf, Kept, Held, heldKey, Readable, candidateAt, restEnd, AppendSays, RowOf, WithinSays}
 use Rattle.choice.specs.declared.cursor.Cursor.{Cursor}
 use Rattle.choice.specs.declared.policy.Policy.{Policy}
 use Rattle.choice.specs.declared.policy.Policy.the-variants.{Merged, Lacking}
@@ -43,17 +45,17 @@ module _ (s u : List ℕ) (x y : ℕ) where
   valueOf w = recordOfWord s u w .val
 
   abbrev byValue : Order
-  byValue = order (valueOf x) (valueOf y)
+  byValue = valueOrder (valueOf x) (valueOf y)
 
   greater-record : recordOfWord s u x .key ≡ recordOfWord s u y .key
       → recordOfWord s u (greaterWord byValue x y) ≡ record { key = recordOfWord s u x .key; val = greater (valueOf x) (valueOf y) }
-  unfolding order greater
+  unfolding valueOrder greater
   greater-record e =
-      cases (less (valueOf x) (valueOf y)) (λ h. rw h (λ i. record { key = sym e i; val = valueOf y }))
-      (λ h. rw h (cases (less (valueOf y) (valueOf x)) (λ g. rw g refl) (λ g. rw g refl)))
+      cases (lessValue (valueOf x) (valueOf y)) (λ h. rw h (λ i. record { key = sym e i; val = valueOf y }))
+      (λ h. rw h (cases (lessValue (valueOf y) (valueOf x)) (λ g. rw g refl) (λ g. rw g refl)))
 
   -- the word of the value chosen, where the values stand at these places
-  module _ (g : Bool) (place other w : ℕ) (first : take 32 (drop place (sourceOf s u x)) ≡ recordOfWord s u x .val) (second : take 32 (drop other (sourceOf s u y)) ≡ recordOfWord s u y .val)
+  module _ (g : Bool) (place other w : ℕ) (first : valueIn (sourceOf s u x) place ≡ recordOfWord s u x .val) (second : valueIn (sourceOf s u y) other ≡ recordOfWord s u y .val)
       (chosen : w ≡ wordOf g (valueAt s u x place) (valueAt s u y other) x y) where
     word-is : w ≡ cond g (greaterWord byValue x y) y
     unfolding valueAt wordOf
@@ -88,13 +90,13 @@ module _ (s u : List ℕ) (x y : ℕ) where
   alone-kept Lacking = refl
 
   both-kept : (p : Policy) → recordOfWord s u x .key ≡ recordOfWord s u y .key → ruleOf p .both (recordOfWord s u x) (recordOfWord s u y) ≡ keptOf (candidate p Equal)
-  unfolding ruleOf choiceOf order
+  unfolding ruleOf choiceOf valueOrder
   both-kept Merged e = ap (λ (r : Record). r ∷ []) (sym (greater-record e))
   both-kept Lacking e =
-      equal-cases (valueOf x) (valueOf y) (λ h q. rw (h, q, less-same (valueOf y) (valueOf y) refl))
+      equal-cases (valueOf x) (valueOf y) (λ h q. rw (h, q, value-same (valueOf y) (valueOf y) refl))
       (λ h n.
-      less-connected (valueOf x) (valueOf y) (λ g. rw (h, g)) (λ q. absurd (n q))
-      (λ g. rw (h, g, less-asymmetric (valueOf y) (valueOf x) g)))
+      value-connected (valueOf x) (valueOf y) (λ g. rw (h, g)) (λ q. absurd (n q))
+      (λ g. rw (h, g, value-asymmetric (valueOf y) (valueOf x) g)))
 
   candidate-first : (p : Policy) (o : Order) → order (recordOfWord s u x .key) (recordOfWord s u y .key) ≡ o → (ms rs : List Record)
       → combined (ruleOf p) (recordOfWord s u x ∷ ms) (recordOfWord s u y ∷ rs)

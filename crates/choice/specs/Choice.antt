@@ -4,7 +4,8 @@ use mathlib.Core.Path.{_≡_}
 use mathlib.Core.Bool.{Bool, true, false, cond}
 use mathlib.Core.List.{List, [], _∷_, _++_}
 use lib.ListN.{length, take, drop, getD, set}
-use Rattle.value.specs.Value.{valueLength, valueIn}
+use lib.Dec.{ltb}
+use Rattle.value.specs.Value.{digestLength, valueIn}
 use Rattle.limits.specs.Limits.{most}
 use Rattle.bytestring.specs.Bytes.{equal}
 use Rattle.key.specs.Key.{less, order}
@@ -13,7 +14,7 @@ use Rattle.key.specs.declared.Order.the-variants.{Less, Equal, Greater}
 use Rattle.tree.specs.Record.{Record}
 use Rattle.row.specs.Row.{sourceOf, Row, recordsOf}
 use Rattle.row.specs.Memory.{Remembers, Recalls}
-use Rattle.promises.specs.Map.{greater}
+use Rattle.promises.specs.Map.{lessValue, greater}
 use Rattle.choice.specs.declared.cursor.Cursor.{Cursor}
 use Rattle.choice.specs.declared.policy.Policy.{Policy}
 use Rattle.choice.specs.declared.policy.Policy.the-variants.{Merged, Lacking}
@@ -76,7 +77,14 @@ unfoldable pub combinedOf : Policy → List ℕ → List ℕ → List ℕ → �
 combinedOf policy s u first n second m = combined (ruleOf policy) (recordsOf s u first n) (recordsOf s u second m)
 
 -- ---- the next word of a row
--- The value at a place of the register that a word belongs to.
+-- The order of values as one of three cases, and that of two bytes.
+unfoldable pub valueOrder : List ℕ → List ℕ → Order
+valueOrder v w = cond (lessValue v w) Less (cond (lessValue w v) Greater Equal)
+
+abbrev pub orderOfBytes : ℕ → ℕ → Order
+orderOfBytes a b = cond (ltb a b) Less (cond (ltb b a) Greater Equal)
+
+-- The value whose digest stands at a place of the register that a word belongs to.
 unfoldable pub valueAt : List ℕ → List ℕ → ℕ → ℕ → List ℕ
 valueAt s u w place = valueIn (sourceOf s u w) place
 
@@ -89,7 +97,7 @@ greaterWord Greater first second = first
 -- Of two words for records under one key, the word of the value chosen.
 unfoldable pub wordOf : Bool → List ℕ → List ℕ → ℕ → ℕ → ℕ
 wordOf false v w first second = second
-wordOf true v w first second = greaterWord (order v w) first second
+wordOf true v w first second = greaterWord (valueOrder v w) first second
 
 -- Whether the first row's word is kept where the second row has not its key.
 abbrev pub keepsFirst : Policy → Bool
@@ -112,8 +120,8 @@ keepsOfBoth Lacking Greater = true
 abbrev pub candidateOf : Policy → Order → List ℕ → List ℕ → ℕ → ℕ → Candidate
 candidateOf policy Less v w first second = record { word = first; kept = keepsFirst policy; first = true; second = false }
 candidateOf policy Equal v w first second = record {
-  word = wordOfBoth policy (order v w) first second;
-  kept = keepsOfBoth policy (order v w);
+  word = wordOfBoth policy (valueOrder v w) first second;
+  kept = keepsOfBoth policy (valueOrder v w);
   first = true;
   second = true;
 }
@@ -133,11 +141,11 @@ pub record Held (s u row : List ℕ) (n : ℕ) (keys notes : List ℕ) (c : Curs
 abbrev pub heldKey : List ℕ → Cursor → List ℕ
 heldKey keys c = take (c .size) (drop (c .from) keys)
 
--- The word at a cursor's position can be read, and the key held for it, and the value at its place.
+-- The word at a cursor's position can be read, and the key held for it, and the value by its digest's place.
 pub record Readable (s u words keys : List ℕ) (c : Cursor) : Type 0 where
   pub word : c .at < length words
   pub key : c .from + c .size ≤ length keys
-  pub value : c .value + valueLength ≤ length (sourceOf s u (getD words (c .at) 0))
+  pub value : c .value + digestLength ≤ length (sourceOf s u (getD words (c .at) 0))
 
 -- Of the words at two cursors the one whose turn it is.
 abbrev pub candidateAt : Policy → List ℕ → List ℕ → List ℕ → List ℕ → Cursor → List ℕ → List ℕ → Cursor → Candidate

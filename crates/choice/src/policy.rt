@@ -2,13 +2,13 @@
 use key::Order;
 use key_order::compare;
 use row::bytes::value_of;
+use value::Value;
 ghost use mathlib.Core.Path.{_≡_};
 ghost use Prim.Native.Nat.{_+_, _≤_};
 ghost use lib.ListN.{length};
-ghost use Rattle.value.specs.Value.{valueLength};
-ghost use Rattle.key.specs.Key.{order};
+ghost use Rattle.value.specs.Value.{digestLength};
 ghost use Rattle.row.specs.Row.{sourceOf};
-ghost use Rattle.choice.specs.Choice.{valueAt, wordOf, keepsFirst, wordOfBoth, keepsOfBoth, candidateOf, restEnd};
+ghost use Rattle.choice.specs.Choice.{orderOfBytes, valueOrder, valueAt, wordOf, keepsFirst, wordOfBoth, keepsOfBoth, candidateOf, restEnd};
 
 // Two rows are merged, where of two values under one key the greater is kept; or of the second row's records those are kept that the first
 // row's do not hold, key and value.
@@ -25,14 +25,38 @@ pub struct Candidate {
     pub second: bool,
 }
 
-// The order of the values of two words, at these places.
+// The order of two bytes.
+fn order_of_bytes(a: u8, b: u8) -> Order
+    ensures { λ r. ⌜ r ≡ orderOfBytes a b ⌝ }
+{
+    if a < b {
+        return Order::Less;
+    }
+    if b < a {
+        return Order::Greater;
+    }
+    Order::Equal
+}
+
+// The order of two values: of their digests and, where these are equal, of their codecs.
+fn compare_values(v: Value, w: Value) -> Order
+    ensures { λ r. ⌜ r ≡ valueOrder v w ⌝ }
+{
+    match compare(&v[1..], &w[1..]) {
+        Order::Less => Order::Less,
+        Order::Equal => order_of_bytes(v[0], w[0]),
+        Order::Greater => Order::Greater,
+    }
+}
+
+// The order of the values of two words, whose digests stand at these places.
 fn order_of_values(s: &[u8], u: &[u8], first: u64, place: usize, second: u64, other: usize) -> Order
-    requires { ⌜ (place + valueLength ≤ length (sourceOf (now s) (now u) first)) × (other + valueLength ≤ length (sourceOf (now s) (now u) second)) ⌝ }
-    ensures { λ r. ⌜ r ≡ order (valueAt (now (s .entry)) (now (u .entry)) first place) (valueAt (now (s .entry)) (now (u .entry)) second other) ⌝ }
+    requires { ⌜ (place + digestLength ≤ length (sourceOf (now s) (now u) first)) × (other + digestLength ≤ length (sourceOf (now s) (now u) second)) ⌝ }
+    ensures { λ r. ⌜ r ≡ valueOrder (valueAt (now (s .entry)) (now (u .entry)) first place) (valueAt (now (s .entry)) (now (u .entry)) second other) ⌝ }
 {
     let v = value_of(s, u, first, place);
     let w = value_of(s, u, second, other);
-    compare(&v, &w)
+    compare_values(v, w)
 }
 
 // Of two words for records under one key, whose values stand in this order, the one whose turn it is.
@@ -49,7 +73,7 @@ fn word_of_both(policy: Policy, values: Order, first: u64, second: u64) -> u64
     }
 }
 
-// Of two words for records under one key: the second, or the word of the greater value. The values stand at these places.
+// Of two words for records under one key: the second, or the word of the greater value. The values' digests stand at these places.
 pub fn word_of(
     s: &[u8],
     u: &[u8],
@@ -59,7 +83,7 @@ pub fn word_of(
     second: u64,
     other: usize,
 ) -> u64
-    requires { ⌜ (place + valueLength ≤ length (sourceOf (now s) (now u) first)) × (other + valueLength ≤ length (sourceOf (now s) (now u) second)) ⌝ }
+    requires { ⌜ (place + digestLength ≤ length (sourceOf (now s) (now u) first)) × (other + digestLength ≤ length (sourceOf (now s) (now u) second)) ⌝ }
     ensures { λ r. ⌜ r ≡ wordOf greater (valueAt (now (s .entry)) (now (u .entry)) first place) (valueAt (now (s .entry)) (now (u .entry)) second other) first second ⌝ }
 {
     if !greater {
@@ -93,7 +117,7 @@ fn keeps_of_both(policy: Policy, values: Order) -> bool
     }
 }
 
-// Of the next words of two rows the one whose turn it is. Their keys stand in this order, and their values at these places.
+// Of the next words of two rows the one whose turn it is. Their keys stand in this order, and their values' digests at these places.
 pub fn candidate_of(
     s: &[u8],
     u: &[u8],
@@ -104,7 +128,7 @@ pub fn candidate_of(
     second: u64,
     other: usize,
 ) -> Candidate
-    requires { ⌜ (place + valueLength ≤ length (sourceOf (now s) (now u) first)) × (other + valueLength ≤ length (sourceOf (now s) (now u) second)) ⌝ }
+    requires { ⌜ (place + digestLength ≤ length (sourceOf (now s) (now u) first)) × (other + digestLength ≤ length (sourceOf (now s) (now u) second)) ⌝ }
     ensures { λ r. ⌜ r ≡ candidateOf policy order (valueAt (now (s .entry)) (now (u .entry)) first place) (valueAt (now (s .entry)) (now (u .entry)) second other) first second ⌝ }
 {
     match order {

@@ -9,7 +9,8 @@ use Rattle.bytestring.specs.Bytes.{zeros}
 use Rattle.key.specs.Key.{shared}
 use Rattle.key.specs.Layer.{bits, bitsOf, leadingZeroBits, layerOfDigest}
 use Rattle.page.specs.Number.{numberBytes}
-use Rattle.page.specs.Page.{linkBytes, gapBytes, entryBytes, pageBytes}
+use Rattle.value.proofs.Laws.{value-digest}
+use Rattle.page.specs.Page.{gapBytes, valueBytes, entryBytes, pageBytes}
 use Rattle.tree.specs.Tree.{Page, page, empty, end, entry, pages, topLayer, part, entriesOf, pageOf, gapOf, build, treeOf}
 use Rattle.tree.specs.Record.{Record, spelt}
 use Rattle.tree.specs.Table.{linkOf, rawEntries, rawPage, bytesOfPage, table, digestOf, tableOf, treeOfSet}
@@ -42,13 +43,13 @@ module _ (k v : List ℕ) where
       rw e (one-build n)
 
 one-row : Holds (ofOne ab1 64 1)
-unfolding single pages spelt table bytesOfPage rawPage rawEntries linkOf shared pageBytes entryBytes numberBytes gapBytes linkBytes
-one-row n v h = rw (one-tree ab1 v n) (simp length-append (omega arith), refl)
+unfolding single pages spelt table bytesOfPage rawPage rawEntries linkOf shared pageBytes entryBytes numberBytes gapBytes valueBytes
+one-row n v h = rw (one-tree ab1 v n) (simp length-append (omega (arith, value-digest v h)), refl)
 
 -- ---- two records in one page
 two-row : Holds (ofTwo ab1 ab2 3 1 118)
-unfolding spelt bytesOfPage rawPage rawEntries linkOf shared pageBytes entryBytes numberBytes gapBytes linkBytes
-two-row v w h k = (refl, refl, simp length-append (omega arith))
+unfolding spelt bytesOfPage rawPage rawEntries linkOf shared pageBytes entryBytes numberBytes gapBytes valueBytes
+two-row v w h k = (refl, refl, simp length-append (omega (arith, value-digest v h, value-digest w k)))
 
 nothing-row : Holds (ofNothing 7 1)
 unfolding tableOf treeOfSet treeOf topLayer build part pageOf entriesOf pages spelt table bytesOfPage rawPage rawEntries linkOf pageBytes numberBytes gapBytes

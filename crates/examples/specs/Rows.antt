@@ -1,9 +1,10 @@
 -- The rows to try that are marked, as one list.
 use Prim.Native.Nat.{ℕ, _+_}
 use mathlib.Core.Path.{_≡_}
+use mathlib.Core.Bool.{true}
 use mathlib.Core.List.{List, [], _∷_, _++_, map as mapList}
 use lib.ListN.{length}
-use Rattle.value.specs.Value.{valueLength}
+use Rattle.value.specs.Value.{isValue}
 use Rattle.bytestring.specs.Bytes.{zeros}
 use Rattle.key.specs.Layer.{layerOfDigest}
 use Rattle.page.specs.Page.{RawEntry}
@@ -62,12 +63,12 @@ abbrev pub Holds : TrialRow → Type 0
 Holds (ofDigest begins layer) = (rest : List ℕ) → length (begins ++ rest) ≡ 32 → layerOfDigest (begins ++ rest) ≡ layer
 Holds (ofNothing bytes count) = (length (tableOf []) ≡ bytes) × (pages (treeOfSet []) ≡ count)
 Holds (ofOne k bytes count) =
-    (layer : ℕ) (v : List ℕ) → length v ≡ valueLength
+    (layer : ℕ) (v : List ℕ) → isValue v ≡ true
     → (length (table (spelt (treeOf digestOf (record { layer = layer; item = record { key = k; val = v } } ∷ [])))) ≡ bytes)
     × (pages (treeOf digestOf (record { layer = layer; item = record { key = k; val = v } } ∷ [])) ≡ count)
 Holds (ofLayers ns counts) = entryCounts (treeOfLayers ns) ≡ counts
 Holds (ofTwo k l shares rest bytes) =
-    (v w : List ℕ) → length v ≡ valueLength → length w ≡ valueLength
+    (v w : List ℕ) → isValue v ≡ true → isValue w ≡ true
     → (mapList (λ (e : RawEntry). e .shares) (rawPage (spelt (onePage (record { key = k; val = v }) (record { key = l; val = w }))) .entries) ≡ 0 ∷ shares ∷ [])
     × (mapList (λ (e : RawEntry). length (e .remainder)) (rawPage (spelt (onePage (record { key = k; val = v }) (record { key = l; val = w }))) .entries) ≡ length k ∷ rest ∷ [])
     × (length (bytesOfPage (spelt (onePage (record { key = k; val = v }) (record { key = l; val = w })))) ≡ bytes)

@@ -12,6 +12,7 @@ use lib.Seq.{take-nil}
 use Rattle.limits.specs.Limits.{deepest}
 use Rattle.bytestring.specs.Bytes.{Bytes}
 use Rattle.key.specs.Key.{shared}
+use Rattle.value.specs.Value.{valueIn}
 use Rattle.page.specs.Reading.{read, Reader, andThen, times}
 use Rattle.page.specs.Page.{RawEntry, entryBytes, entry as entryReader}
 use Rattle.page_reader.specs.Place.{Reads, linkAt, entryAt, EntryHere, Located, LocatedIs, PageIs}
@@ -124,7 +125,7 @@ times-first p n l rest xs q k = andThen-inv (p l) (λ a t h _. k a t h) q
 
 -- the entry that was read, as it is spelt, and its key
 abbrev speltAt : List ℕ → EntryAt → Spelt
-speltAt s e = record { shares = e .shares; remainder = take (e .size) (drop (e .remainder) s); val = take 32 (drop (e .value) s) }
+speltAt s e = record { shares = e .shares; remainder = take (e .size) (drop (e .remainder) s); val = valueIn s (e .value) }
 
 abbrev keyAt : List ℕ → EntryAt → List ℕ → List ℕ
 keyAt s e before = take (e .shares) before ++ take (e .size) (drop (e .remainder) s)

@@ -4,12 +4,13 @@ use mathlib.Core.Path.{_≡_, refl, sym, ap, subst, _∙_}
 use mathlib.Core.Option.{Option, none, some}
 use mathlib.Core.List.{List, [], _∷_, _++_}
 use native.Mathlib.Omega.{arith}
-use lib.ListN.{length, take, drop, length-append, length-drop}
+use lib.ListN.{length, take, drop, length-drop}
 use lib.Seq.{length-take-le}
 use Rattle.bytestring.specs.Bytes.{Bytes}
+use Rattle.value.specs.Value.{valueIn}
 use Rattle.page.specs.Reading.{read, Reader}
 use Rattle.page.specs.Number.{numberBytes}
-use Rattle.page.specs.Page.{linkHead, linkBytes, gapBytes, RawEntry, pageBytes}
+use Rattle.page.specs.Page.{linkBytes, gapBytes, RawEntry, pageBytes}
 use Rattle.page_reader.specs.Place.{linkAt, EntryHere, PageHere}
 use Rattle.page_reader.specs.declared.EntryAt.{EntryAt}
 use Rattle.page_reader.specs.declared.PageAt.{PageAt}
@@ -52,7 +53,7 @@ under-ends s d at to o g b l h q = read-ends (under-spells d o) s at to g b l h 
 -- ---- an entry
 module _ (s : List ℕ) (at : ℕ) (e : EntryAt) (slice : Bytes s) (here : EntryHere s at e) where
   pub entry-ends : (g : Gap Spelt (List ℕ)) → linkOf g ≡ linkAt s (e .link)
-      → e .end ≡ at + lengthOfEntry (record { shares = e .shares; remainder = take (e .size) (drop (e .remainder) s); val = take 32 (drop (e .value) s) }) g
+      → e .end ≡ at + lengthOfEntry (record { shares = e .shares; remainder = take (e .size) (drop (e .remainder) s); val = valueIn s (e .value) }) g
   entry-ends g q =
       rw q (reads-end entry-spells slice (here .whole))
 
@@ -85,7 +86,7 @@ link-some s (suc before) f = refl
 -- ---- a page without entries, whose left link leads on
 link-length : (d : List ℕ) → length d ≡ 32 → length (onlyLink d) ≡ 47
 unfolding pageBytes numberBytes gapBytes linkBytes
-link-length d h = omega (arith, length-append linkHead d)
+link-length d h = omega arith
 
 pub link-page : (s : List ℕ) (at : ℕ) (p : PageAt) → Bytes s → PageHere s at p → p .count ≡ 0 → (p .left ≡ 0 → ⊥)
     → (p .end ≡ at + 47) × (p .left ≡ at + 15) × (take 47 (drop at s) ≡ onlyLink (take 32 (drop (at + 15) s)))

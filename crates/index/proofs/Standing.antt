@@ -3,14 +3,14 @@ use Prim.Native.Nat.{ℕ, zero, suc, _+_, _-_, _≤_, _<_}
 use mathlib.Core.Path.{_≡_, refl, sym, ap, subst, _∙_}
 use mathlib.Core.List.{List, [], _∷_, _++_, append-assoc, append-nil}
 use native.Mathlib.Omega.{arith}
-use lib.ListN.{length, take, drop, getD, length-append, length-drop}
-use lib.Seq.{take-at, drop-at, drop-drop}
+use lib.ListN.{length, drop, getD, length-append, length-drop}
+use lib.Seq.{drop-at, drop-drop}
 use Rattle.limits.specs.Limits.{deepest}
 use Rattle.bytestring.proofs.Tools.{All, all-append, all-at}
 use Rattle.bytestring.specs.Bytes.{Bytes}
 use Rattle.page.specs.Reading.{read, Reader, exactly, concat}
-use Rattle.page.specs.Number.{plainNumber, byteString, array, numberBytes}
-use Rattle.page.specs.Page.{linkHead, linkBytes, gapBytes, RawEntry, entryBytes, entry as entryReader, RawPage, pageBytes}
+use Rattle.page.specs.Number.{array, numberBytes}
+use Rattle.page.specs.Page.{gapBytes, RawEntry, entryBytes, entry as entryReader, RawPage, pageBytes}
 use Rattle.page_reader.specs.Place.{Reads, readStop, entryAt, EntryHere, pageStart}
 use Rattle.page_reader.specs.declared.Stop.{Stop}
 use Rattle.page_reader.specs.declared.Stop.the-variants.{EndsEarly, Departs}
@@ -18,6 +18,7 @@ use Rattle.page_reader.specs.declared.EntryAt.{EntryAt}
 use Rattle.page.proofs.Readers.{endsEarly≢read, departs≢read}
 use Rattle.page.proofs.Numbers.{number-reads}
 use Rattle.page.proofs.Pages.{GoodEntry, GoodPage, entry-reads}
+use Rattle.page.proofs.Standing.{size-of-entry, value-there}
 use Rattle.tree.specs.OnePage.{keyAfter}
 use Rattle.tree.specs.Tree.{page, Gap, empty, under, Entries, end, entry}
 use Rattle.tree.specs.Record.{Spelt, recordOf}
@@ -49,31 +50,11 @@ reads-there p a s at l rest q h e = record {
   within = bytes-within s at l rest e h;
 }
 
--- ---- an entry
--- all of it but its value
-abbrev entryHead : RawEntry → List ℕ
-entryHead e =
-    (0xA4 ∷ 0x61 ∷ 0x6B ∷ []) ++ (numberBytes byteString (length (e .remainder)) ++ (e .remainder ++ (
-    (0x61 ∷ 0x70 ∷ []) ++ (numberBytes plainNumber (e .shares) ++ (
-    (0x61 ∷ 0x74 ∷ []) ++ (gapBytes (e .after) ++ ((0x61 ∷ 0x76 ∷ []) ++ linkHead)))))))
-
-entry-parts : (e : RawEntry) → entryBytes e ≡ entryHead e ++ e .val
-unfolding entryBytes linkBytes
-entry-parts e = simp append-assoc
-
-module _ (s : List ℕ) (at : ℕ) (e : RawEntry) (rest : List ℕ) (good : GoodEntry e) (q : drop at s ≡ entryBytes e ++ rest) where
-  pub entry-there : Reads entryReader s at e (at + length (entryBytes e))
-  unfolding entryBytes
-  entry-there = reads-there entryReader e s at (entryBytes e) rest (entry-reads e rest good) (omega arith) q
-
-  pub size-of-entry : length (entryBytes e) ≡ length (entryHead e) + 32
-  size-of-entry = ap length (entry-parts e) ∙ omega (arith, length-append (entryHead e) (e .val), good .val)
-
-  pub value-there : take 32 (drop (at + length (entryBytes e) - 32) s) ≡ e .val
-  value-there =
-      let parts : drop at s ≡ entryHead e ++ (e .val ++ rest) = q ∙ rw (entry-parts e) (append-assoc (entryHead e) (e .val) rest) in
-      let n : at + length (entryBytes e) - 32 ≡ at + length (entryHead e) = omega (arith, size-of-entry) in
-      rw (n, after-bytes s at (entryHead e) (e .val ++ rest) parts) (take-at (e .val) rest 32 (good .val))
+-- an entry
+pub entry-there : (s : List ℕ) (at : ℕ) (e : RawEntry) (rest : List ℕ) → GoodEntry e → drop at s ≡ entryBytes e ++ rest
+    → Reads entryReader s at e (at + length (entryBytes e))
+unfolding entryBytes
+entry-there s at e rest good q = reads-there entryReader e s at (entryBytes e) rest (entry-reads e rest good) (omega arith) q
 
 -- ---- the start of a page
 abbrev startBytes : RawPage → List ℕ
@@ -179,8 +160,8 @@ module _ (s : List ℕ) where
       reads = entry-there s at (rawOf e g) rest good q;
       key = refl;
       val = refl;
-      value = omega (arith, size-of-entry s at (rawOf e g) rest good q);
-      bytes = value-there s at (rawOf e g) rest good q;
+      value = omega (arith, size-of-entry (rawOf e g) (good .val));
+      bytes = value-there (rawOf e g) (good .val) s at rest q;
     }
 
   mutual

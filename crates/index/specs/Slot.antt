@@ -4,7 +4,7 @@ use mathlib.Core.Bool.{Bool, true, false, not, _&&_}
 use mathlib.Core.List.{List, [], _∷_, _++_}
 use lib.ListN.{length}
 use lib.Dec.{eqb}
-use Rattle.value.specs.Value.{valueLength}
+use Rattle.value.specs.Value.{digestLength}
 use Rattle.key.specs.Key.{less, lawful}
 use Rattle.key.specs.Layer.{layerOf}
 use Rattle.tree.specs.Tree.{page, Gap, empty, under, Entries, end, entry}
@@ -12,7 +12,7 @@ use Rattle.tree.specs.Record.{Record, Spelt, recordOf}
 use Rattle.tree.specs.Table.{SpeltTree, bytesOfPage, tableUnder}
 use Rattle.tree.specs.Place.{lengthOfEntry, firstEntry}
 
--- A record, the depth of its page below the root, and the places of its page, of its entry and of its value.
+-- A record, the depth of its page below the root, and the places of its page, of its entry and of its value's digest.
 pub record Slot : Type 0 where
   pub depth : ℕ
   pub page : ℕ
@@ -35,7 +35,7 @@ unfoldable mutual
   pub slotsFrom : ℕ → ℕ → ℕ → ℕ → List ℕ → Entries Spelt (List ℕ) → List Slot
   slotsFrom depth pg at below before end = []
   slotsFrom depth pg at below before (entry e g es) =
-      record { depth = depth; page = pg; entry = at; value = at + lengthOfEntry e g - valueLength; item = recordOf before e }
+      record { depth = depth; page = pg; entry = at; value = at + lengthOfEntry e g - digestLength; item = recordOf before e }
       ∷ (slotsUnder (depth + 1) below g
       ++ slotsFrom depth pg (at + lengthOfEntry e g) (below + length (tableUnder g)) (recordOf before e .key) es)
 

@@ -1,5 +1,5 @@
 -- The key before in a page, held in an array, and the entry of a record after it.
-use Prim.Native.Nat.{ℕ, _+_, _-_, _≤_}
+use Prim.Native.Nat.{ℕ, suc, _+_, _-_, _≤_}
 use mathlib.Core.Path.{_≡_, sym, ap, _∙_}
 use mathlib.Core.Bool.{Bool, true, false, not, false≢true}
 use mathlib.Core.List.{List}
@@ -21,11 +21,11 @@ use Rattle.row.specs.declared.recall.Recalled.{Recalled}
 use Rattle.layout.specs.Entry.{Holding, KeyHeld, EntryTried}
 use Rattle.layout.specs.Layout.{Ready}
 
-pub val-length : {s u : List ℕ} {w : ℕ} → Stands s u w → length (recordOfWord s u w .val) ≡ 32
+pub val-length : {s u : List ℕ} {w : ℕ} → Stands s u w → length (recordOfWord s u w .val) ≡ 33
 val-length {s} {u} {w} stands =
     let v = stands .held in
     let k : 32 ≤ length (drop (v .slot .value) (sourceOf s u w)) = omega (arith, value-within (v .there), length-drop (v .slot .value) (sourceOf s u w)) in
-    rw (word-record v, ← v .there .bytes) (length-take-le 32 (drop (v .slot .value) (sourceOf s u w)) k)
+    rw (word-record v, ← v .there .bytes) (ap suc (length-take-le 32 (drop (v .slot .value) (sourceOf s u w)) k))
 
 pub held-length : {s u keys notes previous : List ℕ} {held : ℕ} → Holding s u keys notes previous held → held ≡ length (take held previous)
 held-length {previous = previous} {held} h = sym (length-take-le held previous (omega (arith, h .room, h .fits)))

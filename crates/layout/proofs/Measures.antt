@@ -39,7 +39,7 @@ link-is (suc n) f i zero = refl
 link-is (suc n) f i (suc m) = refl
 
 module _ (n : ℕ) (f : ℕ → Placed Record) (i m : ℕ) where
-  entry-size : (before key val : List ℕ) → length val ≡ 32
+  entry-size : (before key val : List ℕ) → length val ≡ 33
       → length (entryBytes (entryAfter before key (linkTo (gapFor n (span f i m))) val)) ≡ entryLength before key (hasPage n m)
   entry-size before key val h = rw (link-is n f i m) (length-entry before key (hasPage n m) (someDigest n (span f i m)) val (some-length n (span f i m)) h)
 

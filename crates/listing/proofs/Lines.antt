@@ -4,15 +4,16 @@ use mathlib.Core.Path.{_≡_, refl, sym, ap, subst, _∙_}
 use mathlib.Core.List.{List, [], _∷_, _++_, map, append-assoc, append-nil}
 use native.Mathlib.Omega.{arith}
 use native.Mathlib.Numerals.{add-one}
-use lib.ListN.{length, take, drop, getD, set, length-set, length-drop}
-use lib.Seq.{take-all, take-suc, take-suc-set, getD-drop}
+use lib.ListN.{length, take, drop, getD, set, length-set}
+use lib.Seq.{take-all, take-suc, take-suc-set}
+use Rattle.value.specs.Value.{valueIn}
 use Rattle.tree.specs.Record.{Record}
 use Rattle.row.specs.Row.{recordOfWord, recordsOf}
 use Rattle.row.specs.Memory.{Recalls}
 use Rattle.row.specs.declared.recall.Recalled.{Recalled}
 use Rattle.row.proofs.Rows.{source-same, records-none, records-more, records-split}
 use Rattle.promises.specs.Listing.{hexDigit, hexadecimal, space, lineFeed, recordLines}
-use Rattle.listing.specs.Text.{Adds, lineEnd, LineEndSays, lineOf, LineSays}
+use Rattle.listing.specs.Text.{Adds, lineEnd, lineOf, LineSays}
 use Rattle.listing.specs.declared.text.TextAdded.{TextAdded}
 use Rattle.listing.specs.declared.text.TextAdded.the-variants.{Text, NoRoom}
 use Rattle.listing.proofs.Adding.{adds-nothing, adds-then, adds-short, adds-same}
@@ -23,18 +24,18 @@ unfolding hexadecimal
 one-more-byte [] b = refl
 one-more-byte (a ∷ l) b = ap (λ (r : List ℕ). hexDigit (a / 16) ∷ hexDigit (a % 16) ∷ r) (one-more-byte l b)
 
--- the space and the digits of the first i bytes are written
-abbrev pub DigitsSoFar : List ℕ → ℕ → List ℕ → ℕ → Type 0
-DigitsSoFar s at text i = take (2 * i + 1) text ≡ space ∷ hexadecimal (take i (drop at s))
+-- the space and the digits of the value's first i bytes are written
+abbrev pub DigitsSoFar : List ℕ → List ℕ → ℕ → Type 0
+DigitsSoFar value text i = take (2 * i + 1) text ≡ space ∷ hexadecimal (take i value)
 
-pub digits-begin : (s : List ℕ) (at : ℕ) (text : List ℕ) → take 1 text ≡ space ∷ [] → DigitsSoFar s at text 0
+pub digits-begin : (value text : List ℕ) → take 1 text ≡ space ∷ [] → DigitsSoFar value text 0
 unfolding hexadecimal
-digits-begin s at text e = e
+digits-begin value text e = e
 
-digits-more : (s : List ℕ) (at : ℕ) (text : List ℕ) (i : ℕ) → DigitsSoFar s at text i → 2 * i + 2 < length text → at + i < length s
-    → DigitsSoFar s at (set (set text (2 * i + 1) (hexDigit (getD s (at + i) 0 / 16))) (2 * i + 2) (hexDigit (getD s (at + i) 0 % 16))) (i + 1)
-digits-more s at text i u h k =
-    let b : ℕ = getD s (at + i) 0 in
+digits-more : (value text : List ℕ) (i : ℕ) → DigitsSoFar value text i → 2 * i + 2 < length text → i < length value
+    → DigitsSoFar value (set (set text (2 * i + 1) (hexDigit (getD value i 0 / 16))) (2 * i + 2) (hexDigit (getD value i 0 % 16))) (i + 1)
+digits-more value text i u h k =
+    let b : ℕ = getD value i 0 in
     let once : List ℕ = set text (2 * i + 1) (hexDigit (b / 16)) in
     let first : take (suc (2 * i + 1)) once ≡ take (2 * i + 1) text ++ (hexDigit (b / 16) ∷ []) =
     take-suc-set text (2 * i + 1) (hexDigit (b / 16)) (omega arith) in
@@ -42,36 +43,29 @@ digits-more s at text i u h k =
     take-suc-set once (2 * i + 2) (hexDigit (b % 16)) (omega (arith, length-set text (2 * i + 1) (hexDigit (b / 16)))) in
     let e : 2 * (i + 1) + 1 ≡ suc (2 * i + 2) = omega arith in
     let f : 2 * i + 2 ≡ suc (2 * i + 1) = omega arith in
-    let n : i < length (drop at s) = omega (arith, length-drop at s) in
-    let d : take (i + 1) (drop at s) ≡ take i (drop at s) ++ (b ∷ []) =
-    rw (add-one i) (take-suc (drop at s) i 0 n ∙ ap (λ (x : ℕ). take i (drop at s) ++ (x ∷ [])) (getD-drop at s i 0)) in
+    let d : take (i + 1) value ≡ take i value ++ (b ∷ []) = rw (add-one i) (take-suc value i 0 k) in
     ap (λ (x : ℕ). take x (set once (2 * i + 2) (hexDigit (b % 16)))) e
     ∙ second
     ∙ ap (λ (l : List ℕ). l ++ (hexDigit (b % 16) ∷ []))
     (ap (λ (x : ℕ). take x once) f ∙ first ∙ ap (λ (l : List ℕ). l ++ (hexDigit (b / 16) ∷ [])) u)
     ∙ ap (λ (l : List ℕ). space ∷ l)
-    (append-assoc (hexadecimal (take i (drop at s))) (hexDigit (b / 16) ∷ []) (hexDigit (b % 16) ∷ [])
-    ∙ sym (ap hexadecimal d ∙ one-more-byte (take i (drop at s)) b))
+    (append-assoc (hexadecimal (take i value)) (hexDigit (b / 16) ∷ []) (hexDigit (b % 16) ∷ [])
+    ∙ sym (ap hexadecimal d ∙ one-more-byte (take i value) b))
 
-pub digits-turn : (s : List ℕ) (at : ℕ) (text : List ℕ) (i : ℕ) → DigitsSoFar s at text i → 2 * i + 2 < length text → at + i < length s
-    → (a b : ℕ) → a ≡ hexDigit (getD s (at + i) 0 / 16) → b ≡ hexDigit (getD s (at + i) 0 % 16)
-    → DigitsSoFar s at (set (set text (2 * i + 1) a) (2 * i + 2) b) (i + 1)
-digits-turn s at text i u h k a b e f = rw (e, f) (digits-more s at text i u h k)
+pub digits-turn : (value text : List ℕ) (i : ℕ) → DigitsSoFar value text i → 2 * i + 2 < length text → i < length value
+    → (a b : ℕ) → a ≡ hexDigit (getD value i 0 / 16) → b ≡ hexDigit (getD value i 0 % 16)
+    → DigitsSoFar value (set (set text (2 * i + 1) a) (2 * i + 2) b) (i + 1)
+digits-turn value text i u h k a b e f = rw (e, f) (digits-more value text i u h k)
 
-pub digits-all : (s : List ℕ) (at : ℕ) (text : List ℕ) (i : ℕ) → DigitsSoFar s at text i → length text ≡ 66 → 32 ≤ i → i ≤ 32
-    → LineEndSays s at (set text 65 lineFeed)
+pub digits-all : (value text : List ℕ) (i : ℕ) → DigitsSoFar value text i → length value ≡ 33 → length text ≡ 68 → 33 ≤ i → i ≤ 33
+    → set text 67 lineFeed ≡ lineEnd value
 unfolding lineEnd
-digits-all s at text i u e h k =
-    let n : i ≡ 32 = omega arith in
-    let m : 65 ≡ 2 * i + 1 = omega arith in
-    let same : set text 65 lineFeed ≡ lineEnd (take 32 (drop at s)) =
-    sym (take-all 66 (set text 65 lineFeed) (omega (arith, length-set text 65 lineFeed)))
-    ∙ take-suc-set text 65 lineFeed (omega arith)
-    ∙ ap (λ (l : List ℕ). l ++ (lineFeed ∷ [])) (ap (λ (x : ℕ). take x text) m ∙ u ∙ ap (λ (x : ℕ). space ∷ hexadecimal (take x (drop at s))) n) in
-    record { ends = λ j. same }
-
-pub no-line-end : (s : List ℕ) (at : ℕ) (text : List ℕ) → length s < at + 32 → LineEndSays s at text
-no-line-end s at text h = record { ends = λ j. absurd (omega arith) }
+digits-all value text i u n e h k =
+    let m : 67 ≡ 2 * i + 1 = omega arith in
+    sym (take-all 68 (set text 67 lineFeed) (omega (arith, length-set text 67 lineFeed)))
+    ∙ take-suc-set text 67 lineFeed (omega arith)
+    ∙ ap (λ (l : List ℕ). l ++ (lineFeed ∷ []))
+    (ap (λ (x : ℕ). take x text) m ∙ u ∙ ap (λ (l : List ℕ). space ∷ hexadecimal l) (take-all i value (omega arith)))
 
 -- ---- a line
 module _ {s keys notes : List ℕ} {word : ℕ} {found : Recalled} (w : Recalls s s word keys notes found) {o : List ℕ} {at n : ℕ} (size : n ≡ found .size)
@@ -82,12 +76,12 @@ module _ {s keys notes : List ℕ} {word : ℕ} {found : Recalled} (w : Recalls 
   pub short-line : q ≡ NoRoom → LineSays s word o at m keys notes NoRoom
   short-line h = record { line = adds-short key-added h (lineEnd (recordOfWord s s word .val)); remembers = w .remembers }
 
-  pub whole-line : {e rest : List ℕ} {next : ℕ} {r : TextAdded} → q ≡ Text next → LineEndSays s (found .value) rest → Adds m next rest e r
-      → LineSays s word o at e keys notes r
-  whole-line {rest} h l b =
+  pub whole-line : {e value rest : List ℕ} {next : ℕ} {r : TextAdded} → q ≡ Text next → (found .value + 32 ≤ length s → value ≡ valueIn s (found .value))
+      → rest ≡ lineEnd value → Adds m next rest e r → LineSays s word o at e keys notes r
+  whole-line {rest} h v l b =
       let place : found .value + 32 ≤ length s = rw source-same at (w .within) in
-      let value : take 32 (drop (found .value) s) ≡ recordOfWord s s word .val = rw source-same at (w .val) in
-      record { line = adds-then key-added h (adds-same b (sym (l .ends place ∙ ap lineEnd value))); remembers = w .remembers }
+      let held : valueIn s (found .value) ≡ recordOfWord s s word .val = rw source-same at (w .val) in
+      record { line = adds-then key-added h (adds-same b (sym (l ∙ ap lineEnd (v place ∙ held)))); remembers = w .remembers }
 
 -- ---- all lines
 one-line : (r : Record) (rs : List Record) → recordLines (r ∷ rs) ≡ lineOf r ++ recordLines rs

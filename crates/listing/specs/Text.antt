@@ -3,7 +3,6 @@ use Prim.Native.Nat.{ℕ, _+_, _≤_, _<_}
 use mathlib.Core.Path.{_≡_}
 use mathlib.Core.List.{List, [], _∷_, _++_}
 use lib.ListN.{length, take}
-use Rattle.value.specs.Value.{valueLength, valueIn}
 use Rattle.tree.specs.Record.{Record}
 use Rattle.row.specs.Row.{recordOfWord}
 use Rattle.row.specs.Memory.{Remembers}
@@ -23,9 +22,6 @@ pub record Adds (entry : List ℕ) (at : ℕ) (text exit : List ℕ) (r : TextAd
 -- What follows the key in a record's line.
 unfoldable pub lineEnd : List ℕ → List ℕ
 lineEnd value = space ∷ (hexadecimal value ++ (lineFeed ∷ []))
-
-pub record LineEndSays (s : List ℕ) (at : ℕ) (text : List ℕ) : Type 0 where
-  pub ends : at + valueLength ≤ length s → text ≡ lineEnd (valueIn s at)
 
 abbrev pub lineOf : Record → List ℕ
 lineOf r = r .key ++ lineEnd (r .val)

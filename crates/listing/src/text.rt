@@ -5,6 +5,7 @@ use judge::judge;
 use limits::MOST;
 use row::recall::recall;
 use value::VALUE;
+use value::value_at;
 ghost use mathlib.Core.Path.{_≡_};
 ghost use mathlib.Core.List.{[], _∷_, _++_};
 ghost use Prim.Native.Nat.{_^_, _<_};
@@ -13,7 +14,8 @@ ghost use Rattle.io.specs.Counts.{Counts};
 ghost use Rattle.row.specs.Row.{Stands, Row, recordsOf};
 ghost use Rattle.row.specs.Memory.{Remembers};
 ghost use Rattle.promises.specs.Listing.{decimal, digits, hexDigit, lineFeed, recordLines, listing};
-ghost use Rattle.listing.specs.Text.{TextStands, Adds, LineEndSays, LineSays};
+ghost use Rattle.value.specs.Value.{valueLength};
+ghost use Rattle.listing.specs.Text.{TextStands, Adds, lineEnd, LineSays};
 
 // A text's length, or that there is no room for it.
 pub enum TextAdded {
@@ -82,25 +84,20 @@ fn hex_digit(n: u8) -> u8
     if n < 10 { 0x30 + n } else { 0x57 + n }
 }
 
-// What follows the key in a record's line: a space, the value at a place in 64 digits, and a line feed.
-fn line_end(s: &[u8], at: usize) -> [u8; 66]
-    ensures { λ r. ⌜ LineEndSays (now (s .entry)) at r ⌝ }
+// What follows the key in a record's line: a space, the value in 66 digits, and a line feed.
+fn line_end(value: &[u8]) -> [u8; 68]
+    requires { ⌜ length (now value) ≡ valueLength ⌝ }
+    ensures { λ r. ⌜ r ≡ lineEnd (now (value .entry)) ⌝ }
 {
-    let mut text = [0x20u8; 66];
-    if s.len() < VALUE {
-        return text;
-    }
-    if s.len() - VALUE < at {
-        return text;
-    }
+    let mut text = [0x20u8; 68];
     let mut i = 0;
     while i < VALUE {
-        let byte = s[at + i];
+        let byte = value[i];
         text[2 * i + 1] = hex_digit(byte / 16);
         text[2 * i + 2] = hex_digit(byte % 16);
         i += 1;
     }
-    text[65] = 0x0A;
+    text[67] = 0x0A;
     text
 }
 
@@ -121,7 +118,8 @@ fn add_line(
     let to = from + found.size;
     match add(out, at, &keys[from..to]) {
         TextAdded::Text(next) => {
-            let rest = line_end(s, found.value);
+            let value = value_at(s, found.value);
+            let rest = line_end(&value);
             add(out, next, &rest)
         }
         TextAdded::NoRoom => TextAdded::NoRoom,

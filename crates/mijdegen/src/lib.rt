@@ -77,9 +77,9 @@ pub extern "C" fn mijdegen_check(lent: &[u8], head: &mut Head) -> u64
 
 #[no_mangle]
 pub extern "C" fn mijdegen_lookup(lent: &[u8], sought: &[u8]) -> u64
-    ensures { λ r. ⌜ r ≡ encoded (lookupAnswer (now (lent .entry)) (now (sought .entry))) ⌝ }
+    ensures { λ r. ⌜ r ≡ encodedOfTwo (lookupAnswer (now (lent .entry)) (now (sought .entry))) ⌝ }
 {
-    answer::encode(register::lookup(lent, sought))
+    answer::encode_two(register::lookup(lent, sought))
 }
 
 #[no_mangle]
@@ -247,7 +247,7 @@ pub extern "C" fn mijdegen_path(lent: &[u8], sought: &[u8], out: &mut [u8]) -> u
 
 #[no_mangle]
 pub extern "C" fn mijdegen_verify(lent: &[u8], sought: &[u8], root: &[u8]) -> u64
-    ensures { λ r. ⌜ r ≡ encoded (verifyAnswer (verifyVerdict (now (lent .entry)) (now (sought .entry)) (now (root .entry)))) ⌝ }
+    ensures { λ r. ⌜ r ≡ encodedOfTwo (verifyAnswer (now (lent .entry)) (verifyVerdict (now (lent .entry)) (now (sought .entry)) (now (root .entry)))) ⌝ }
 {
-    answer::encode(path_reader::verify(lent, sought, root))
+    answer::encode_two(path_reader::verify(lent, sought, root))
 }

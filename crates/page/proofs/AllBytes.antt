@@ -1,6 +1,7 @@
 -- What is written is bytes, where the fields are.
 use Prim.Native.Nat.{ℕ, _≤_, _<_}
 use mathlib.Core.Path.{_≡_, subst}
+use mathlib.Core.Bool.{true}
 use mathlib.Core.Option.{Option, none, some}
 use mathlib.Core.List.{List, [], _∷_, append-nil}
 use native.Mathlib.Omega.{arith}
@@ -8,11 +9,13 @@ use lib.ListN.{length}
 use lib.Dec.{ltb}
 use borrow.Author.Tests.{ltb-true}
 use borrow.Table.Steps.{cases}
-use Rattle.bytestring.proofs.Tools.{All, bytes-append}
+use Rattle.bytestring.proofs.Tools.{All, bytes-append, bytes-drop}
 use Rattle.bytestring.specs.Bytes.{Bytes}
+use Rattle.value.specs.Value.{dagCbor, valueCodec, valueDigest, isValue}
+use Rattle.value.proofs.Laws.{codec-byte, value-codec}
 use Rattle.page.specs.Reading.{concat}
 use Rattle.page.specs.Number.{plainNumber, byteString, array, numberBytes}
-use Rattle.page.specs.Page.{linkHead, linkBytes, gapBytes, RawEntry, entryBytes, RawPage, pageBytes}
+use Rattle.page.specs.Page.{linkHead, linkBytes, gapBytes, valueBytes, RawEntry, entryBytes, RawPage, pageBytes}
 use Rattle.page.proofs.Tools.{bytes-concat}
 use Rattle.page.proofs.Pages.{beforeEntries, beforeLeft, beforeRemainder, beforeShares, beforeGap, beforeValue, GoodEntry, GoodPage}
 
@@ -37,7 +40,11 @@ number-bytes kind n hk hn =
 
 pub link-bytes : (digest : List ℕ) → Bytes digest → Bytes (linkBytes digest)
 unfolding linkBytes
-link-bytes digest b = bytes-append linkHead digest (omega arith) b
+link-bytes digest b = bytes-append (linkHead dagCbor) digest (omega arith) b
+
+pub value-bytes : (v : List ℕ) → isValue v ≡ true → Bytes v → Bytes (valueBytes v)
+unfolding valueBytes
+value-bytes v h b = bytes-append (linkHead (valueCodec v)) (valueDigest v) (omega (arith, codec-byte (valueCodec v) (value-codec v h))) (bytes-drop 1 v b)
 
 pub gap-bytes : (g : Option (List ℕ)) → ByteGap g → Bytes (gapBytes g)
 unfolding gapBytes
@@ -55,7 +62,7 @@ entry-bytes e g b =
     beforeRemainder ∷ numberBytes byteString (length (e .remainder)) ∷ e .remainder
     ∷ beforeShares ∷ numberBytes plainNumber (e .shares)
     ∷ beforeGap ∷ gapBytes (e .after)
-    ∷ beforeValue ∷ linkBytes (e .val) ∷ [])
+    ∷ beforeValue ∷ valueBytes (e .val) ∷ [])
     (entryBytes e) (simp append-nil) (
       omega arith,
       (
@@ -72,7 +79,7 @@ entry-bytes e g b =
                   gap-bytes (e .after) (b .after),
                   (
                     omega arith,
-                    (link-bytes (e .val) (b .val), tt),
+                    (value-bytes (e .val) (g .val) (b .val), tt),
                   ),
                 ),
               ),

@@ -5,20 +5,27 @@ use mathlib.Core.Option.{Option, none, some}
 use mathlib.Core.List.{List, [], _∷_, _++_}
 use lib.ListN.{length}
 use lib.Dec.{eqb}
-use Rattle.value.specs.Value.{digestLength}
-use Rattle.page.specs.Reading.{read, endsEarly, Reader, andThen, _>>=_, _>>_, pure, exactly, anyBytes, times, concat}
+use Rattle.value.specs.Value.{digestLength, dagCbor, isCodec, valueCodec, valueDigest}
+use Rattle.page.specs.Reading.{read, endsEarly, departs, Reader, andThen, _>>=_, _>>_, pure, exactly, anyBytes, times, concat}
 use Rattle.page.specs.Number.{plainNumber, byteString, array, numberBytes, number}
 
--- Each link begins with these nine bytes and goes on with 32 digest bytes.
-abbrev pub linkHead : List ℕ
-linkHead = 0xD8 ∷ 0x2A ∷ 0x58 ∷ 0x25 ∷ 0x00 ∷ 0x01 ∷ 0x71 ∷ 0x12 ∷ 0x20 ∷ []
+-- Each link has six bytes, the codec of what it names, two bytes more, and 32 digest bytes.
+abbrev pub beforeCodec : List ℕ
+beforeCodec = 0xD8 ∷ 0x2A ∷ 0x58 ∷ 0x25 ∷ 0x00 ∷ 0x01 ∷ []
 
+abbrev pub afterCodec : List ℕ
+afterCodec = 0x12 ∷ 0x20 ∷ []
+
+abbrev pub linkHead : ℕ → List ℕ
+linkHead c = beforeCodec ++ (c ∷ afterCodec)
+
+-- The codec of a page link is 71, and no other.
 unfoldable pub linkBytes : List ℕ → List ℕ
-linkBytes digest = linkHead ++ digest
+linkBytes digest = linkHead dagCbor ++ digest
 
 unfoldable pub link : Reader (List ℕ)
 link = do
-  exactly linkHead
+  exactly (linkHead dagCbor)
   anyBytes digestLength
 
 -- A gap: the link of the page in it, or null where it is empty.
@@ -33,12 +40,21 @@ unfoldable pub gap : Reader (Option (List ℕ))
 gap [] = endsEarly
 gap (b ∷ s) = cond (eqb b null) (read none s) (andThen (link (b ∷ s)) (λ digest t. read (some digest) t))
 
--- A value is written as a link.
-abbrev pub valueBytes : List ℕ → List ℕ
-valueBytes v = linkBytes v
+-- A value is written as a link with its own codec, 55 or 71. Every other byte in the codec's place departs.
+unfoldable pub valueBytes : List ℕ → List ℕ
+valueBytes v = linkHead (valueCodec v) ++ valueDigest v
 
-abbrev pub value : Reader (List ℕ)
-value = link
+unfoldable pub codec : Reader ℕ
+codec [] = endsEarly
+codec (b ∷ s) = cond (isCodec b) (read b s) departs
+
+unfoldable pub value : Reader (List ℕ)
+value = do
+  exactly beforeCodec
+  c ← codec
+  exactly afterCodec
+  d ← anyBytes digestLength
+  pure (c ∷ d)
 
 -- An entry: how many leading bytes its key shares with the key before it in the page, the rest of the key, its value, and the link of the
 -- gap after it.

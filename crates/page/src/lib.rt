@@ -1,7 +1,12 @@
 // One page: the bytes that are the same in all pages.
 
-// Each link begins with these nine bytes and goes on with 32 digest bytes.
+// Each page link begins with these nine bytes and goes on with 32 digest bytes. The seventh is the codec.
 pub const LINK_HEAD: [u8; 9] = [0xD8, 0x2A, 0x58, 0x25, 0x00, 0x01, 0x71, 0x12, 0x20];
+
+// What stands before the codec of a link, and between it and the digest.
+pub const BEFORE_CODEC: [u8; 6] = [0xD8, 0x2A, 0x58, 0x25, 0x00, 0x01];
+
+pub const AFTER_CODEC: [u8; 2] = [0x12, 0x20];
 
 // An empty gap.
 pub const NULL: u8 = 0xF6;

@@ -1,6 +1,7 @@
 -- Entries that are located: where one was read, the bytes that all entries have stand there, and what is found behind them are its parts.
 use Prim.Native.Nat.{ℕ, _+_, _-_, _≤_, _<_}
 use mathlib.Core.Path.{_≡_, refl, sym, ap, subst, _∙_}
+use mathlib.Core.Bool.{true, false}
 use mathlib.Core.Option.{Option}
 use mathlib.Core.List.{List, _++_}
 use native.Mathlib.Omega.{arith}
@@ -11,10 +12,11 @@ use borrow.Author.Tests.{ltb-true, ltb-false}
 use borrow.Table.Steps.{cases}
 use Rattle.bytestring.proofs.Tools.{bytes-drop}
 use Rattle.bytestring.specs.Bytes.{Bytes}
-use Rattle.page.specs.Reading.{Read, read, andThen, exactly}
+use Rattle.value.specs.Value.{digestIn, dagCbor, isCodec, valueIn}
+use Rattle.page.specs.Reading.{Read, read, endsEarly, Reader, andThen, exactly, anyBytes}
 use Rattle.page.specs.Number.{plainNumber, byteString, number}
-use Rattle.page.specs.Page.{linkHead, link, null, gap, RawEntry, entryBytes, entry}
-use Rattle.page_reader.specs.Place.{Reads, after, ExactIs, NumberIs, LinkIs, GapIs, entryStart, entryEnd, EntryEndIs, LocatedEndIs, LocatedIs}
+use Rattle.page.specs.Page.{beforeCodec, afterCodec, linkHead, link, null, gap, value, RawEntry, entryBytes, entry}
+use Rattle.page_reader.specs.Place.{Reads, after, ExactIs, NumberIs, LinkIs, valueEnd, GapIs, entryStart, entryEnd, EntryEndIs, LocatedEndIs, LocatedIs}
 use Rattle.page_reader.specs.declared.Stop.{Stop}
 use Rattle.page_reader.specs.declared.PlaceRead.the-variants.{Place}
 use Rattle.page_reader.specs.declared.NumberRead.{NumberRead}
@@ -22,10 +24,10 @@ use Rattle.page_reader.specs.declared.NumberRead.the-variants.{Number, N
 use Rattle.page_reader.specs.declared.GapRead.the-variants.{Gap}
 use Rattle.page_reader.specs.declared.EntryRead.{EntryRead}
 use Rattle.page_reader.specs.declared.EntryRead.the-variants.{Entry, EntryStop}
-use Rattle.page.proofs.Readers.{endsEarly≢read, andThen-inv, exactly-inv}
+use Rattle.page.proofs.Readers.{endsEarly≢read, departs≢read, andThen-inv, exactly-inv}
 use Rattle.page.proofs.Numbers.{number-spells}
 use Rattle.page.proofs.Pages.{beforeRemainder, beforeShares, beforeGap, beforeValue, entry-spells}
-use Rattle.page_reader.proofs.Places.{bytes-there, after-is, number-after, link-after, gap-after, link-ends, link-there, gap-none, gap-null, link-follows, gap-there}
+use Rattle.page_reader.proofs.Places.{bytes-there, after-is, number-after, link-after, gap-after, digest-ends, digest-there, codec-none, codec-departs, codec-passed, value-end, value-from-codec, gap-none, gap-null, link-follows, gap-there}
 use Rattle.page_reader.proofs.PagePlaces.{withValue, steps, end-steps, reads-then, end-there, start-stopped, remainder-next, remainder-ends, shares-stopped, end-next, entry-there}
 use Rattle.page_reader.proofs.Determined.{not-both}
 
@@ -45,26 +47,43 @@ exact-place bytes s at f a t =
     let r = behind bytes s at v (exactly-inv bytes (drop at s) v u h) in
     ((h ∙ ap (λ (l : List ℕ). read tt l) (sym (r .0)), refl), r .1))
 
-link-place : (s : List ℕ) (at digest : ℕ) (d t : List ℕ) → at + 9 ≡ digest → link (drop at s) ≡ read d t → LinkIs link 9 s at (Place digest)
-unfolding link
-link-place s at digest d t e h =
-    let w = exact-place linkHead s at _ d t h .0 in
-    subst (λ (n : ℕ). LinkIs link 9 s at (Place n)) e
-    (cases (ltb (length s - (at + 9)) 32)
-    (λ l. absurd (endsEarly≢read (sym (link-ends s at (Place (at + 9)) w (at + 9) (length s - (at + 9)) refl refl (ltb-true _ 32 l)) ∙ h)))
-    (λ l. link-there s at (Place (at + 9)) w (at + 9) (length s - (at + 9)) refl refl (ltb-false _ 32 l)))
+-- fixed bytes, and then a digest
+digest-place : (bytes s : List ℕ) (at digest : ℕ) (d t : List ℕ) → at + length bytes ≡ digest → after bytes (anyBytes 32) (drop at s) ≡ read d t
+    → LinkIs digestIn (after bytes (anyBytes 32)) (length bytes) s at (Place digest)
+digest-place bytes s at digest d t e h =
+    let w = subst (λ (n : ℕ). ExactIs bytes s at (Place n)) e (exact-place bytes s at _ d t h .0) in
+    cases (ltb (length s - digest) 32)
+    (λ l. absurd (endsEarly≢read (sym (digest-ends bytes s at (Place digest) w digest refl (length s - digest) refl (ltb-true _ 32 l)) ∙ h)))
+    (λ l. digest-there bytes s at (Place digest) w digest refl (length s - digest) refl (ltb-false _ 32 l))
 
-gap-starts : (s : List ℕ) (at : ℕ) (g : Option (List ℕ)) (t : List ℕ) → gap (drop at s) ≡ read g t → at < length s
-gap-starts s at g t h =
+-- what needs a byte
+reader-starts : {A : Type 0} (p : Reader A) (s : List ℕ) (at : ℕ) (a : A) (t : List ℕ) → (length s ≤ at → p (drop at s) ≡ endsEarly) → p (drop at s) ≡ read a t → at < length s
+reader-starts p s at a t none h =
     cases (ltb at (length s))
     (λ l. ltb-true at (length s) l)
-    (λ l. absurd (endsEarly≢read (sym (gap-none s at (ltb-false at (length s) l)) ∙ h)))
+    (λ l. absurd (endsEarly≢read (sym (none (ltb-false at (length s) l)) ∙ h)))
+
+value-end-place : (s : List ℕ) (at digest : ℕ) (v t : List ℕ) → at + 3 ≡ digest → valueEnd (drop at s) ≡ read v t → LinkIs valueIn valueEnd 3 s at (Place digest)
+value-end-place s at digest v t e h =
+    let l : at < length s = reader-starts valueEnd s at v t (codec-none s at) h in
+    cases (isCodec (getD s at 0))
+    (λ c. value-end s at l true (sym c) refl (Place digest)
+    (andThen-inv (after afterCodec (anyBytes 32) (drop (at + 1) s)) (λ d u q _. digest-place afterCodec s (at + 1) digest d u (omega arith) q) (sym (codec-passed s at l true (sym c) refl) ∙ h)))
+    (λ c. absurd (departs≢read (sym (codec-departs s at l false (sym c) refl) ∙ h)))
+
+value-place : (s : List ℕ) (at digest : ℕ) (v t : List ℕ) → at + 9 ≡ digest → value (drop at s) ≡ read v t → LinkIs valueIn value 9 s at (Place digest)
+unfolding value valueEnd
+value-place s at digest v t e h =
+    let w = exact-place beforeCodec s at _ v t h .0 in
+    value-from-codec s at (Place (at + 6)) w (at + 6) refl (Place digest)
+    (value-end-place s (at + 6) digest v t (omega arith) (sym (after-is beforeCodec s at (Place (at + 6)) w (at + 6) refl valueEnd) ∙ h))
 
 gap-place : (s : List ℕ) (at digest : ℕ) (g : Option (List ℕ)) (t : List ℕ) → (getD s at 0 ≡ null → ⊥) → at + 9 ≡ digest → gap (drop at s) ≡ read g t
     → GapIs gap s at (Gap digest (digest + 32))
+unfolding link
 gap-place s at digest g t f e h =
-    let l : at < length s = gap-starts s at g t h in
-    andThen-inv (link (drop at s)) (λ d v q _. gap-there s at l f (Place digest) (link-place s at digest d v e q) digest refl) (sym (link-follows s at l f) ∙ h)
+    let l : at < length s = reader-starts gap s at g t (gap-none s at) h in
+    andThen-inv (link (drop at s)) (λ d v q _. gap-there s at l f (Place digest) (digest-place (linkHead dagCbor) s at digest d v e q) digest refl) (sym (link-follows s at l f) ∙ h)
 
 -- an entry that is read ends at a place
 pub entry-place : (s : List ℕ) (at : ℕ) (a : RawEntry) (t : List ℕ) → Bytes s → entry (drop at s) ≡ read a t → Reads entry s at a (at + length (entryBytes a))
@@ -84,17 +103,17 @@ module _ (s : List ℕ) (at shares remainder size : ℕ) where
     gap-next = rw (after-is beforeGap s at (Place (at + 2)) gap-passed (at + 2) refl gap) at (sym (end-steps shares (take size (drop remainder s)) (drop at s)) ∙ q)
 
     gap-byte : at + 2 < length s
-    gap-byte = andThen-inv (gap (drop (at + 2) s)) (λ g v e _. gap-starts s (at + 2) g v e) gap-next
+    gap-byte = andThen-inv (gap (drop (at + 2) s)) (λ g v e _. reader-starts gap s (at + 2) g v (gap-none s (at + 2)) e) gap-next
 
-    end-found : (digest to value : ℕ) → GapIs gap s (at + 2) (Gap digest to) → to + 11 ≡ value
-        → EntryEndIs s at shares remainder size (Entry (record { shares = shares; remainder = remainder; size = size; link = digest; value = value; end = value + 32 }))
-    end-found digest to value v e =
+    end-found : (digest to place : ℕ) → GapIs gap s (at + 2) (Gap digest to) → to + 11 ≡ place
+        → EntryEndIs s at shares remainder size (Entry (record { shares = shares; remainder = remainder; size = size; link = digest; value = place; end = place + 32 }))
+    end-found digest to place v e =
         let y = sym (reads-then (withValue shares (take size (drop remainder s))) (v .whole)) ∙ gap-next in
         let w : ExactIs beforeValue s to (Place (to + 2)) = exact-place beforeValue s to _ a t y .0 in
-        let z = rw (after-is beforeValue s to (Place (to + 2)) w (to + 2) refl link) at (sym (steps beforeValue link _ (drop to s)) ∙ y) in
-        let x : LinkIs link 9 s (to + 2) (Place value) = andThen-inv (link (drop (to + 2) s)) (λ d u r _. link-place s (to + 2) value d u (omega arith) r) z in
+        let z = rw (after-is beforeValue s to (Place (to + 2)) w (to + 2) refl value) at (sym (steps beforeValue value _ (drop to s)) ∙ y) in
+        let x : LinkIs valueIn value 9 s (to + 2) (Place place) = andThen-inv (value (drop (to + 2) s)) (λ d u r _. value-place s (to + 2) place d u (omega arith) r) z in
         end-there s at shares remainder size (Gap digest to) (gap-after beforeGap s at (Place (at + 2)) gap-passed (at + 2) refl gap (Gap digest to) v) digest to refl
-        (Place value) (link-after beforeValue s to (Place (to + 2)) w (to + 2) refl link 9 (Place value) x) value refl
+        (Place place) (link-after beforeValue s to (Place (to + 2)) w (to + 2) refl valueIn value 9 (Place place) x) place refl
 
     null-found : getD s (at + 2) 0 ≡ null
         → EntryEndIs s at shares remainder size (Entry (record { shares = shares; remainder = remainder; size = size; link = 0; value = at + 14; end = at + 14 + 32 }))

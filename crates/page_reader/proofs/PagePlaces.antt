@@ -1,19 +1,21 @@
 -- Entries and pages at a place of a slice, in the facts that the branches of the code leave.
 use Prim.Native.Nat.{ℕ, suc, _+_, _-_, _≤_, _<_}
-use mathlib.Core.Path.{_≡_, refl, sym, subst, _∙_}
-use mathlib.Core.Bool.{Bool, true}
+use mathlib.Core.Path.{_≡_, refl, sym, ap, subst, _∙_}
+use mathlib.Core.Bool.{Bool, true, false, _||_}
 use mathlib.Core.Option.{Option, none}
 use mathlib.Core.List.{List, [], _∷_, _++_, append-assoc, append-nil}
 use native.Mathlib.Omega.{arith}
 use native.Mathlib.Nat.{sub-zero}
-use lib.ListN.{length, take, drop, take-append-drop}
-use lib.Seq.{drop-drop}
+use lib.ListN.{length, take, drop, getD, take-append-drop}
+use lib.Seq.{drop-drop, getD-drop}
+use borrow.Table.Steps.{cases}
 use Rattle.bytestring.specs.Bytes.{equal}
 use Rattle.bytestring.proofs.Equal.{equal-true}
+use Rattle.value.specs.Value.{raw, dagCbor, isCodec, valueIn}
 use Rattle.page.specs.Reading.{Read, read, endsEarly, departs, Reader, andThen, exactly, anyBytes, times}
 use Rattle.page.specs.Number.{plainNumber, byteString, array, number}
-use Rattle.page.specs.Page.{link, gap, RawEntry, entry, RawPage, page}
-use Rattle.page_reader.specs.Place.{Reads, readStop, after, NumberIs, LinkIs, linkAt, GapIs, entryStart, entryEnd, entryAt, EntryEndIs, EntryHere, EntryIs, pageStart, EntriesHere, EntriesIs, PageIs}
+use Rattle.page.specs.Page.{gap, codec, value, RawEntry, entry, RawPage, page}
+use Rattle.page_reader.specs.Place.{Reads, readStop, after, NumberIs, LinkIs, linkAt, GapIs, entryStart, entryEnd, emptyGapToValue, entryAt, EntryEndIs, EntryHere, EntryIs, pageStart, EntriesHere, EntriesIs, PageIs}
 use Rattle.page_reader.specs.declared.Stop.{Stop}
 use Rattle.page_reader.specs.declared.PlaceRead.{PlaceRead}
 use Rattle.page_reader.specs.declared.PlaceRead.the-variants.{Place, PlaceStop}
@@ -35,7 +37,7 @@ pub steps : {A B : Type 0} (bytes : List ℕ) (p : Reader A) (f : A → List ℕ
 steps bytes p f t = then-assoc (exactly bytes t) (λ _ u. p u) f
 
 abbrev pub withValue : ℕ → List ℕ → Option (List ℕ) → List ℕ → Read RawEntry
-withValue p r g t = andThen (exactly beforeValue t) (λ _ u. andThen (link u) (λ v x. read (record { shares = p; remainder = r; after = g; val = v }) x))
+withValue p r g t = andThen (exactly beforeValue t) (λ _ u. andThen (value u) (λ v x. read (record { shares = p; remainder = r; after = g; val = v }) x))
 
 pub end-steps : (p : ℕ) (r t : List ℕ) → entryEnd p r t ≡ andThen (after beforeGap gap t) (withValue p r)
 unfolding entryEnd
@@ -70,20 +72,20 @@ module _ (s : List ℕ) (at shares remainder size : ℕ) (m : GapRead) (w : GapI
   pub gap-stopped : (stop : Stop) → m ≡ GapStop stop → ended (drop at s) ≡ readStop stop
   gap-stopped stop e = end-steps shares _ (drop at s) ∙ then-stops valued stop (subst (GapIs (after beforeGap gap) s at) e w)
 
-  module _ (digest to : ℕ) (e : m ≡ Gap digest to) (n : PlaceRead) (v : LinkIs (after beforeValue link) 11 s to n) where
+  module _ (digest to : ℕ) (e : m ≡ Gap digest to) (n : PlaceRead) (v : LinkIs valueIn (after beforeValue value) 11 s to n) where
     gap-here : GapIs (after beforeGap gap) s at (Gap digest to)
     gap-here = subst (GapIs (after beforeGap gap) s at) e w
 
-    value-next : ended (drop at s) ≡ andThen (after beforeValue link (drop to s)) (λ x u. read (record { shares = shares; remainder = take size (drop remainder s); after = linkAt s digest; val = x }) u)
-    value-next = end-steps shares _ (drop at s) ∙ reads-then valued (gap-here .whole) ∙ steps beforeValue link _ (drop to s)
+    value-next : ended (drop at s) ≡ andThen (after beforeValue value (drop to s)) (λ x u. read (record { shares = shares; remainder = take size (drop remainder s); after = linkAt s digest; val = x }) u)
+    value-next = end-steps shares _ (drop at s) ∙ reads-then valued (gap-here .whole) ∙ steps beforeValue value _ (drop to s)
 
     pub value-stopped : (stop : Stop) → n ≡ PlaceStop stop → ended (drop at s) ≡ readStop stop
-    value-stopped stop f = value-next ∙ then-stops _ stop (subst (LinkIs (after beforeValue link) 11 s to) f v)
+    value-stopped stop f = value-next ∙ then-stops _ stop (subst (LinkIs valueIn (after beforeValue value) 11 s to) f v)
 
-    pub end-there : (value : ℕ) → n ≡ Place value
-        → EntryEndIs s at shares remainder size (Entry (record { shares = shares; remainder = remainder; size = size; link = digest; value = value; end = value + 32 }))
-    end-there value f =
-        let x : LinkIs (after beforeValue link) 11 s to (Place value) = subst (LinkIs (after beforeValue link) 11 s to) f v in (
+    pub end-there : (place : ℕ) → n ≡ Place place
+        → EntryEndIs s at shares remainder size (Entry (record { shares = shares; remainder = remainder; size = size; link = digest; value = place; end = place + 32 }))
+    end-there place f =
+        let x : LinkIs valueIn (after beforeValue value) 11 s to (Place place) = subst (LinkIs valueIn (after beforeValue value) 11 s to) f v in (
           refl,
           refl,
           refl,
@@ -93,32 +95,55 @@ module _ (s : List ℕ) (at shares remainder size : ℕ) (m : GapRead) (w : GapI
           },
         )
 
--- an empty gap: all bytes before the value are fixed
-abbrev emptyGapToValue : List ℕ
-emptyGapToValue = 0x61 ∷ 0x74 ∷ 0xF6 ∷ 0x61 ∷ 0x76 ∷ 0xD8 ∷ 0x2A ∷ 0x58 ∷ 0x25 ∷ 0x00 ∷ 0x01 ∷ 0x71 ∷ 0x12 ∷ 0x20 ∷ []
+-- one comparison, and then another
+module _ (a b r : Bool) (e : r ≡ a) where
+  pub or-first : r ≡ true → true ≡ (a || b)
+  or-first h = rw (← e, h)
 
-empty-gap : (p : ℕ) (r t : List ℕ)
-    → entryEnd p r (emptyGapToValue ++ t) ≡ andThen (anyBytes 32 t) (λ v u. read (record { shares = p; remainder = r; after = none; val = v }) u)
-unfolding entryEnd exactly gap link
-empty-gap p r t = refl
+  pub or-second : (q : Bool) → r ≡ false → q ≡ b → q ≡ (a || b)
+  or-second q h f = rw (← e, h) f
+
+-- an empty gap: all bytes before the digest of the value are fixed but the codec
+empty-gap : (c p : ℕ) (r t : List ℕ) → isCodec c ≡ true
+    → entryEnd p r (emptyGapToValue c ++ t)
+    ≡ andThen (andThen (anyBytes 32 t) (λ d u. read (c ∷ d) u)) (λ v u. read (record { shares = p; remainder = r; after = none; val = v }) u)
+unfolding entryEnd exactly gap value codec
+empty-gap c p r t h = rw h
 
 module _ (s : List ℕ) (at shares remainder size left : ℕ) (el : left ≡ length s - at) (h : 46 ≤ left) where
-  pub empty-gap-there : (r : Bool) → r ≡ equal (take (at + 14 - at) (drop at s)) emptyGapToValue → r ≡ true
-      → EntryEndIs s at shares remainder size (Entry (record { shares = shares; remainder = remainder; size = size; link = 0; value = at + 14; end = at + 14 + 32 }))
+  abbrev EmptyGapThere : Type 0
+  EmptyGapThere =
+      EntryEndIs s at shares remainder size (Entry (record { shares = shares; remainder = remainder; size = size; link = 0; value = at + 14; end = at + 14 + 32 }))
+
+  empty-gap-here : (c : ℕ) → isCodec c ≡ true → equal (take (at + 14 - at) (drop at s)) (emptyGapToValue c) ≡ true → EmptyGapThere
   unfolding linkAt
-  empty-gap-there r e q =
+  empty-gap-here c k e =
       let n : at + 14 - at ≡ 14 = omega arith in
-      let b : take 14 (drop at s) ≡ emptyGapToValue = equal-true (take 14 (drop at s)) emptyGapToValue (sym (rw n at e) ∙ q) in
-      let d : drop at s ≡ emptyGapToValue ++ drop (at + 14) s = sym (take-append-drop 14 (drop at s)) ∙ rw (b, drop-drop 14 at s) in
+      let b : take 14 (drop at s) ≡ emptyGapToValue c = equal-true (take 14 (drop at s)) (emptyGapToValue c) (rw n at e) in
+      let d : drop at s ≡ emptyGapToValue c ++ drop (at + 14) s = sym (take-append-drop 14 (drop at s)) ∙ rw (b, drop-drop 14 at s) in
+      let codec-place : at + 14 - 3 ≡ at + 11 = omega arith in
+      let stands : getD s (at + 11) 0 ≡ c = sym (getD-drop at s 11 0) ∙ ap (λ (l : List ℕ). getD l 11 0) d in
       let v = bytes-there s (at + 14) 32 (length s - (at + 14)) refl (omega arith) in (
         refl,
         refl,
         refl,
         record {
-          whole = record { reads = rw d (empty-gap shares (take size (drop remainder s)) (drop (at + 14) s) ∙ rw v); ahead = omega arith; within = omega arith };
+          whole = record {
+            reads = rw (d, codec-place, stands) (empty-gap c shares (take size (drop remainder s)) (drop (at + 14) s) k ∙ rw v);
+            ahead = omega arith;
+            within = omega arith;
+          };
           ends = record { link = λ z. absurd (omega arith); value = refl };
         },
       )
+
+  pub empty-gap-there : (r : Bool)
+      → r ≡ (equal (take (at + 14 - at) (drop at s)) (emptyGapToValue dagCbor) || equal (take (at + 14 - at) (drop at s)) (emptyGapToValue raw)) → r ≡ true → EmptyGapThere
+  unfolding isCodec
+  empty-gap-there r e q =
+      cases (equal (take (at + 14 - at) (drop at s)) (emptyGapToValue dagCbor))
+      (λ f. empty-gap-here dagCbor refl f)
+      (λ f. empty-gap-here raw refl (rw f at (sym e ∙ q)))
 
 -- ---- an entry
 module _ (s : List ℕ) (at : ℕ) (m : NumberRead) (w : NumberIs entryStart s at m) where

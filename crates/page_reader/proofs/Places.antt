@@ -12,10 +12,11 @@ use lib.Dec.{eqb}
 use borrow.Table.Steps.{cases}
 use borrow.Author.Tests.{eq-eqb, ne-eqb, lt-ltb, le-ltb}
 use Rattle.bytestring.specs.Bytes.{equal}
+use Rattle.value.specs.Value.{digestIn, isCodec, valueIn}
 use Rattle.page.specs.Reading.{Read, read, endsEarly, departs, Reader, andThen, exactly, anyBytes}
 use Rattle.page.specs.Number.{oneByte, twoBytes, number}
-use Rattle.page.specs.Page.{linkHead, link, null, gap}
-use Rattle.page_reader.specs.Place.{Reads, readStop, after, ExactIs, NumberIs, LinkIs, linkAt, GapIs}
+use Rattle.page.specs.Page.{beforeCodec, afterCodec, link, null, gap, codec, value}
+use Rattle.page_reader.specs.Place.{Reads, readStop, after, ExactIs, NumberIs, LinkIs, valueEnd, linkAt, GapIs}
 use Rattle.page_reader.specs.declared.Stop.{Stop}
 use Rattle.page_reader.specs.declared.Stop.the-variants.{EndsEarly, Departs}
 use Rattle.page_reader.specs.declared.PlaceRead.{PlaceRead}
@@ -213,40 +214,67 @@ module _ (bytes s : List ℕ) (at : ℕ) (m : PlaceRead) (w : ExactIs bytes s at
     pub number-after : (p : Reader ℕ) (r : NumberRead) → NumberIs p s to r → NumberIs (after bytes p) s at r
     number-after p = number-on p (after bytes p) s at to to-later (after-is p)
 
-    pub link-after : (p : Reader (List ℕ)) (before : ℕ) (r : PlaceRead) → LinkIs p before s to r → LinkIs (after bytes p) (length bytes + before) s at r
-    link-after p before (Place digest) v =
+    pub link-after : (stands : List ℕ → ℕ → List ℕ) (p : Reader (List ℕ)) (before : ℕ) (r : PlaceRead)
+        → LinkIs stands p before s to r → LinkIs stands (after bytes p) (length bytes + before) s at r
+    link-after stands p before (Place digest) v =
         record { whole = reads-on to-later (after-is p) (v .whole); head = omega (arith, v .head, exact-here .1) }
-    link-after p before (PlaceStop stop) v = after-is p ∙ v
+    link-after stands p before (PlaceStop stop) v = after-is p ∙ v
 
     pub gap-after : (p : Reader (Option (List ℕ))) (r : GapRead) → GapIs p s to r → GapIs (after bytes p) s at r
     gap-after p (Gap digest end) v = record { whole = reads-on to-later (after-is p) (v .whole); last = v .last }
     gap-after p (GapStop stop) v = after-is p ∙ v
 
+    -- so many bytes are left behind them
+    module _ (left : ℕ) (el : left ≡ length s - to) where
+      pub digest-ends : left < 32 → after bytes (anyBytes 32) (drop at s) ≡ endsEarly
+      digest-ends h = after-is (anyBytes 32) ∙ bytes-end s to 32 left el h
+
+      pub digest-there : 32 ≤ left → LinkIs digestIn (after bytes (anyBytes 32)) (length bytes) s at (Place to)
+      digest-there h = record {
+        whole = record { reads = after-is (anyBytes 32) ∙ bytes-there s to 32 left el h; ahead = omega (arith, to-later); within = omega arith };
+        head = omega (arith, exact-here .1);
+      }
+
 -- ---- links
-module _ (s : List ℕ) (at : ℕ) (m : PlaceRead) (w : ExactIs linkHead s at m) where
-  pub link-stops : (stop : Stop) → m ≡ PlaceStop stop → link (drop at s) ≡ readStop stop
-  unfolding link
-  link-stops = stop-after linkHead s at m w (anyBytes 32)
+pub digest-within : (stands : List ℕ → ℕ → List ℕ) (p : Reader (List ℕ)) (before : ℕ) (s : List ℕ) (at digest : ℕ) (m : PlaceRead)
+    → LinkIs stands p before s at m → m ≡ Place digest → digest + 32 ≤ length s
+digest-within stands p before s at digest m w e = subst (LinkIs stands p before s at) e w .whole .within
 
-  -- so many bytes are left behind the nine
-  module _ (to left : ℕ) (e : m ≡ Place to) (el : left ≡ length s - to) where
-    digest-follows : link (drop at s) ≡ anyBytes 32 (drop to s)
-    unfolding link
-    digest-follows = after-is linkHead s at m w to e (anyBytes 32)
+-- ---- values, from the codec on
+pub codec-none : (s : List ℕ) (at : ℕ) → length s ≤ at → valueEnd (drop at s) ≡ endsEarly
+unfolding valueEnd codec
+codec-none s at h = rw (drop-of-length-le s h)
 
-    pub link-ends : left < 32 → link (drop at s) ≡ endsEarly
-    link-ends h = digest-follows ∙ bytes-end s to 32 left el h
+module _ (s : List ℕ) (at : ℕ) (h : at < length s) (r : Bool) (e : r ≡ isCodec (getD s at 0)) where
+  pub codec-departs : r ≡ false → valueEnd (drop at s) ≡ departs
+  unfolding valueEnd codec
+  codec-departs q = rw (drop-cons s at 0 h, sym e, q)
 
-    pub link-there : 32 ≤ left → LinkIs link 9 s at (Place to)
-    link-there h =
-        let n : to ≡ at + 9 = exact-here linkHead s at m w to e .1 in
+  module _ (q : r ≡ true) where
+    pub codec-passed : valueEnd (drop at s) ≡ andThen (after afterCodec (anyBytes 32) (drop (at + 1) s)) (λ d t. read (getD s at 0 ∷ d) t)
+    unfolding valueEnd codec
+    codec-passed =
+        rw (byte-at s at (getD s at 0) h refl, sym e, q)
+        (then-assoc (exactly afterCodec (drop (at + 1) s)) (λ _ t. anyBytes 32 t) (λ d t. read (getD s at 0 ∷ d) t))
+
+    pub value-end : (m : PlaceRead) → LinkIs digestIn (after afterCodec (anyBytes 32)) 2 s (at + 1) m → LinkIs valueIn valueEnd 3 s at m
+    value-end (Place digest) w =
+        let n : digest - 3 ≡ at = omega (arith, w .head) in
         record {
-          whole = record { reads = digest-follows ∙ bytes-there s to 32 left el h; ahead = omega arith; within = omega arith };
-          head = omega arith;
+          whole = record { reads = codec-passed ∙ rw (w .whole .reads, n); ahead = omega (arith, w .whole .ahead); within = w .whole .within };
+          head = omega (arith, w .head);
         }
+    value-end (PlaceStop stop) w = codec-passed ∙ then-stops _ stop w
 
-pub digest-within : (p : Reader (List ℕ)) (before : ℕ) (s : List ℕ) (at digest : ℕ) (m : PlaceRead) → LinkIs p before s at m → m ≡ Place digest → digest + 32 ≤ length s
-digest-within p before s at digest m w e = subst (LinkIs p before s at) e w .whole .within
+-- ---- values
+module _ (s : List ℕ) (at : ℕ) (m : PlaceRead) (w : ExactIs beforeCodec s at m) where
+  pub value-stops : (stop : Stop) → m ≡ PlaceStop stop → value (drop at s) ≡ readStop stop
+  unfolding value valueEnd
+  value-stops = stop-after beforeCodec s at m w valueEnd
+
+  pub value-from-codec : (to : ℕ) → m ≡ Place to → (r : PlaceRead) → LinkIs valueIn valueEnd 3 s to r → LinkIs valueIn value 9 s at r
+  unfolding value valueEnd
+  value-from-codec to e = link-after beforeCodec s at m w to e valueIn valueEnd 3
 
 -- ---- gaps
 some-link : (s : List ℕ) (digest : ℕ) → 0 < digest → some (take 32 (drop digest s)) ≡ linkAt s digest
@@ -271,13 +299,13 @@ module _ (s : List ℕ) (at : ℕ) (h : at < length s) where
     unfolding gap
     link-follows = rw (drop-cons s at 0 h, ne-eqb (getD s at 0) null f)
 
-    module _ (m : PlaceRead) (w : LinkIs link 9 s at m) where
+    module _ (m : PlaceRead) (w : LinkIs digestIn link 9 s at m) where
       pub gap-stops : (stop : Stop) → m ≡ PlaceStop stop → gap (drop at s) ≡ readStop stop
-      gap-stops stop e = link-follows ∙ then-stops (λ d t. read (some d) t) stop (subst (LinkIs link 9 s at) e w)
+      gap-stops stop e = link-follows ∙ then-stops (λ d t. read (some d) t) stop (subst (LinkIs digestIn link 9 s at) e w)
 
       pub gap-there : (digest : ℕ) → m ≡ Place digest → GapIs gap s at (Gap digest (digest + 32))
       gap-there digest e =
-          let v : LinkIs link 9 s at (Place digest) = subst (LinkIs link 9 s at) e w in
+          let v : LinkIs digestIn link 9 s at (Place digest) = subst (LinkIs digestIn link 9 s at) e w in
           record {
             whole = record {
               reads = link-follows ∙ rw (v .whole .reads) (ap (λ (g : Option (List ℕ)). read g (drop (digest + 32) s)) (some-link s digest (omega (arith, v .head))));

@@ -5,10 +5,10 @@ use mathlib.Core.Option.{Option, none, some}
 use mathlib.Core.List.{List, [], _∷_}
 use lib.ListN.{length, take, drop}
 use Rattle.limits.specs.Limits.{numbers}
-use Rattle.value.specs.Value.{valueLength, valueIn}
-use Rattle.page.specs.Reading.{Read, read, endsEarly, departs, Reader, _>>=_, _>>_, pure, exactly, times}
+use Rattle.value.specs.Value.{digestLength, valueIn}
+use Rattle.page.specs.Reading.{Read, read, endsEarly, departs, Reader, _>>=_, _>>_, pure, exactly, anyBytes, times}
 use Rattle.page.specs.Number.{number, byteString, array}
-use Rattle.page.specs.Page.{link, gap, value, RawEntry, entry, page}
+use Rattle.page.specs.Page.{afterCodec, linkHead, null, gap, codec, value, RawEntry, entry, page}
 use Rattle.page_reader.specs.declared.Stop.{Stop}
 use Rattle.page_reader.specs.declared.Stop.the-variants.{EndsEarly, Departs}
 use Rattle.page_reader.specs.declared.PlaceRead.{PlaceRead}
@@ -49,14 +49,23 @@ abbrev pub NumberIs : Reader ℕ → List ℕ → ℕ → NumberRead → Type 0
 NumberIs p s at (Number n to) = Reads p s at n to
 NumberIs p s at (NumberStop stop) = p (drop at s) ≡ readStop stop
 
--- A link: the place of its digest, which comes after `before` bytes and ends the link.
-pub record LinkHere (p : Reader (List ℕ)) (before : ℕ) (s : List ℕ) (at digest : ℕ) : Type 0 where
-  pub whole : Reads p s at (take 32 (drop digest s)) (digest + 32)
+-- A link: the place of its digest, which comes after `before` bytes and ends the link. What is read is what `stands` says of that place:
+-- the digest of a page, or a value, whose codec stands before its digest.
+pub record LinkHere (stands : List ℕ → ℕ → List ℕ) (p : Reader (List ℕ)) (before : ℕ) (s : List ℕ) (at digest : ℕ) : Type 0 where
+  pub whole : Reads p s at (stands s digest) (digest + 32)
   pub head : at + before ≡ digest
 
-abbrev pub LinkIs : Reader (List ℕ) → ℕ → List ℕ → ℕ → PlaceRead → Type 0
-LinkIs p before s at (Place digest) = LinkHere p before s at digest
-LinkIs p before s at (PlaceStop stop) = p (drop at s) ≡ readStop stop
+abbrev pub LinkIs : (List ℕ → ℕ → List ℕ) → Reader (List ℕ) → ℕ → List ℕ → ℕ → PlaceRead → Type 0
+LinkIs stands p before s at (Place digest) = LinkHere stands p before s at digest
+LinkIs stands p before s at (PlaceStop stop) = p (drop at s) ≡ readStop stop
+
+-- A value from its codec on.
+unfoldable pub valueEnd : Reader (List ℕ)
+valueEnd = do
+  c ← codec
+  exactly afterCodec
+  d ← anyBytes digestLength
+  pure (c ∷ d)
 
 -- The link whose digest stands at a place. No digest stands at place 0, which means no link.
 unfoldable pub linkAt : List ℕ → ℕ → Option (List ℕ)
@@ -85,15 +94,19 @@ entryEnd shares remainder = do
   v ← value
   pure (record { shares = shares; remainder = remainder; after = g; val = v })
 
--- The entry whose parts stand at these places.
+-- What stands between an entry's numbers and the digest of its value where the gap is empty and the value has codec c.
+abbrev pub emptyGapToValue : ℕ → List ℕ
+emptyGapToValue c = 0x61 ∷ 0x74 ∷ null ∷ 0x61 ∷ 0x76 ∷ linkHead c
+
+-- The entry whose parts stand at these places. A value's place is that of its digest.
 abbrev pub entryAt : List ℕ → EntryAt → RawEntry
 entryAt s e = record { shares = e .shares; remainder = take (e .size) (drop (e .remainder) s); after = linkAt s (e .link); val = valueIn s (e .value) }
 
--- The value ends the entry. From the digest of the gap's link to the value it is 43 places: 32 digest bytes, the two before a value, and
+-- The value's digest ends the entry. From the digest of the gap's link to it are 43 places: 32 digest bytes, the two before a value, and
 -- the nine of its link.
 pub record Ends (e : EntryAt) : Type 0 where
   pub link : 0 < e .link → e .link + 43 ≡ e .value
-  pub value : e .value + valueLength ≡ e .end
+  pub value : e .value + digestLength ≡ e .end
 
 -- The end of an entry whose key was read: where its parts stand.
 pub record EntryEndHere (s : List ℕ) (at : ℕ) (e : EntryAt) : Type 0 where

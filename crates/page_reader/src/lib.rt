@@ -1,7 +1,9 @@
 // Readers at a place of a slice. At a place past the end the input ends early. The functions are for the crates above and no public
 // calls.
 use bytestring::same_bytes;
+use page::AFTER_CODEC;
 use page::ARRAY;
+use page::BEFORE_CODEC;
 use page::BEFORE_ENTRIES;
 use page::BEFORE_GAP;
 use page::BEFORE_LEFT;
@@ -13,27 +15,31 @@ use page::LINK_HEAD;
 use page::NULL;
 use page::PLAIN_NUMBER;
 use value::DIGEST;
-use value::VALUE;
+use value::is_codec;
 ghost use mathlib.Core.Path.{_≡_};
+ghost use mathlib.Core.Bool.{_||_};
 ghost use Prim.Native.Nat.{_+_, _-_, _≤_, _<_};
 ghost use lib.ListN.{length, drop};
-ghost use Rattle.page.specs.Reading.{exactly};
+ghost use Rattle.bytestring.specs.Bytes.{equal};
+ghost use Rattle.value.specs.Value.{digestLength, digestIn, raw, dagCbor, valueIn};
+ghost use Rattle.page.specs.Reading.{exactly, anyBytes};
 ghost use Rattle.page.specs.Number.{oneByte, twoBytes, number};
-ghost use Rattle.page.specs.Page.{link, gap};
-ghost use Rattle.page_reader.specs.Place.{readStop, after, ExactIs, NumberIs, LinkIs, GapIs, EntryEndIs, EntryIs, LocatedEndIs, LocatedIs, pageStart, EntriesIs, PageIs};
+ghost use Rattle.page.specs.Page.{link, gap, value};
+ghost use Rattle.page_reader.specs.Place.{readStop, after, ExactIs, NumberIs, LinkIs, valueEnd, GapIs, emptyGapToValue, EntryEndIs, EntryIs, LocatedEndIs, LocatedIs, pageStart, EntriesIs, PageIs};
 
 // How far behind an entry's numbers its parts stand. The digest of a link in the gap: after the two bytes before a gap, and the nine that
 // begin a link.
 const TO_DIGEST: usize = 11;
 
-// The value after a link: after the link's 32 digest bytes, the two before a value, and the nine.
+// The digest of the value after a link: after the link's 32 digest bytes, the two before a value, and the nine.
 const TO_VALUE_AFTER_LINK: usize = 54;
 
-// The value after an empty gap: after the two bytes, the null, the two, and the nine.
+// The digest of the value after an empty gap: after the two bytes, the null, the two, and the nine.
 const TO_VALUE_AFTER_NULL: usize = 14;
 
-// Most entries have an empty gap after them. What stands before the value is then the same in all of them and is compared at once.
-const EMPTY_GAP_TO_VALUE: [u8; 14] = [
+// Most entries have an empty gap after them. What stands before the digest of the value is then the same in all whose values have one
+// codec and is compared at once. Most values are record blocks.
+const EMPTY_GAP_TO_DAG_CBOR: [u8; 14] = [
     0x61,
     0x74,
     0xF6,
@@ -46,6 +52,23 @@ const EMPTY_GAP_TO_VALUE: [u8; 14] = [
     0x00,
     0x01,
     0x71,
+    0x12,
+    0x20,
+];
+
+const EMPTY_GAP_TO_RAW: [u8; 14] = [
+    0x61,
+    0x74,
+    0xF6,
+    0x61,
+    0x76,
+    0xD8,
+    0x2A,
+    0x58,
+    0x25,
+    0x00,
+    0x01,
+    0x55,
     0x12,
     0x20,
 ];
@@ -75,7 +98,7 @@ enum GapRead {
 }
 
 // Where the parts of an entry stand: its key's remainder, which has size bytes; the digest of the link of the gap after it, or 0;
-// its value. The entry ends before the place end.
+// the digest of its value. The entry ends before the place end.
 pub struct EntryAt {
     pub shares: usize,
     pub remainder: usize,
@@ -218,11 +241,11 @@ fn read_number_after(s: &[u8], at: usize, bytes: &[u8], kind: u8) -> NumberRead
     }
 }
 
-// A link: the place of its digest.
-fn read_link(s: &[u8], at: usize) -> PlaceRead
-    ensures { λ r. ⌜ LinkIs link 9 (now (s .entry)) at r ⌝ }
+// These bytes, and then a digest: the place of the digest.
+fn read_digest_after(s: &[u8], at: usize, bytes: &[u8]) -> PlaceRead
+    ensures { λ r. ⌜ LinkIs digestIn (after (now (bytes .entry)) (anyBytes digestLength)) (length (now (bytes .entry))) (now (s .entry)) at r ⌝ }
 {
-    match read_exactly(s, at, &LINK_HEAD) {
+    match read_exactly(s, at, bytes) {
         PlaceRead::Place(to) => {
             if rest(s.len(), to) < DIGEST {
                 return PlaceRead::PlaceStop(Stop::EndsEarly);
@@ -233,12 +256,42 @@ fn read_link(s: &[u8], at: usize) -> PlaceRead
     }
 }
 
-// These bytes, and then a link: the place of its digest.
-fn read_link_after(s: &[u8], at: usize, bytes: &[u8]) -> PlaceRead
-    ensures { λ r. ⌜ LinkIs (after (now (bytes .entry)) link) (length (now (bytes .entry)) + 9) (now (s .entry)) at r ⌝ }
+// A link: the place of its digest.
+fn read_link(s: &[u8], at: usize) -> PlaceRead
+    ensures { λ r. ⌜ LinkIs digestIn link 9 (now (s .entry)) at r ⌝ }
+{
+    read_digest_after(s, at, &LINK_HEAD)
+}
+
+// A value from its codec on: the place of its digest.
+fn read_value_end(s: &[u8], at: usize) -> PlaceRead
+    ensures { λ r. ⌜ LinkIs valueIn valueEnd 3 (now (s .entry)) at r ⌝ }
+{
+    if s.len() <= at {
+        return PlaceRead::PlaceStop(Stop::EndsEarly);
+    }
+    if is_codec(s[at]) {
+        return read_digest_after(s, at + 1, &AFTER_CODEC);
+    }
+    PlaceRead::PlaceStop(Stop::Departs)
+}
+
+// A value: the place of its digest.
+fn read_value(s: &[u8], at: usize) -> PlaceRead
+    ensures { λ r. ⌜ LinkIs valueIn value 9 (now (s .entry)) at r ⌝ }
+{
+    match read_exactly(s, at, &BEFORE_CODEC) {
+        PlaceRead::Place(to) => read_value_end(s, to),
+        PlaceRead::PlaceStop(stop) => PlaceRead::PlaceStop(stop),
+    }
+}
+
+// These bytes, and then a value: the place of its digest.
+fn read_value_after(s: &[u8], at: usize, bytes: &[u8]) -> PlaceRead
+    ensures { λ r. ⌜ LinkIs valueIn (after (now (bytes .entry)) value) (length (now (bytes .entry)) + 9) (now (s .entry)) at r ⌝ }
 {
     match read_exactly(s, at, bytes) {
-        PlaceRead::Place(to) => read_link(s, to),
+        PlaceRead::Place(to) => read_value(s, to),
         PlaceRead::PlaceStop(stop) => PlaceRead::PlaceStop(stop),
     }
 }
@@ -280,14 +333,14 @@ fn read_gap_and_value(
     ensures { λ r. ⌜ EntryEndIs (now (s .entry)) at shares remainder size r ⌝ }
 {
     match read_gap_after(s, at, &BEFORE_GAP) {
-        GapRead::Gap(link, to) => match read_link_after(s, to, &BEFORE_VALUE) {
+        GapRead::Gap(link, to) => match read_value_after(s, to, &BEFORE_VALUE) {
             PlaceRead::Place(value) => EntryRead::Entry(EntryAt {
                 shares,
                 remainder,
                 size,
                 link,
                 value,
-                end: value + VALUE,
+                end: value + DIGEST,
             }),
             PlaceRead::PlaceStop(stop) => EntryRead::EntryStop(stop),
         },
@@ -295,20 +348,30 @@ fn read_gap_and_value(
     }
 }
 
+// Whether these bytes are what stands before the digest of a value after an empty gap.
+fn empty_gap_before_value(bytes: &[u8]) -> bool
+    ensures { λ r. ⌜ r ≡ (equal (now (bytes .entry)) (emptyGapToValue dagCbor) || equal (now (bytes .entry)) (emptyGapToValue raw)) ⌝ }
+{
+    if same_bytes(bytes, &EMPTY_GAP_TO_DAG_CBOR) {
+        return true;
+    }
+    same_bytes(bytes, &EMPTY_GAP_TO_RAW)
+}
+
 // The end of an entry whose key was read.
 fn read_entry_end(s: &[u8], at: usize, shares: usize, remainder: usize, size: usize) -> EntryRead
     ensures { λ r. ⌜ EntryEndIs (now (s .entry)) at shares remainder size r ⌝ }
 {
-    if TO_VALUE_AFTER_NULL + VALUE <= rest(s.len(), at) {
+    if TO_VALUE_AFTER_NULL + DIGEST <= rest(s.len(), at) {
         let value = at + TO_VALUE_AFTER_NULL;
-        if same_bytes(&s[at..value], &EMPTY_GAP_TO_VALUE) {
+        if empty_gap_before_value(&s[at..value]) {
             return EntryRead::Entry(EntryAt {
                 shares,
                 remainder,
                 size,
                 link: 0,
                 value,
-                end: value + VALUE,
+                end: value + DIGEST,
             });
         }
     }
@@ -343,7 +406,7 @@ fn locate_entry_end(s: &[u8], at: usize, shares: usize, remainder: usize, size: 
         return EntryRead::EntryStop(Stop::EndsEarly);
     }
     if s[at + 2] == NULL {
-        if left < TO_VALUE_AFTER_NULL + VALUE {
+        if left < TO_VALUE_AFTER_NULL + DIGEST {
             return EntryRead::EntryStop(Stop::EndsEarly);
         }
         let value = at + TO_VALUE_AFTER_NULL;
@@ -353,10 +416,10 @@ fn locate_entry_end(s: &[u8], at: usize, shares: usize, remainder: usize, size: 
             size,
             link: 0,
             value,
-            end: value + VALUE,
+            end: value + DIGEST,
         });
     }
-    if left < TO_VALUE_AFTER_LINK + VALUE {
+    if left < TO_VALUE_AFTER_LINK + DIGEST {
         return EntryRead::EntryStop(Stop::EndsEarly);
     }
     let value = at + TO_VALUE_AFTER_LINK;
@@ -366,7 +429,7 @@ fn locate_entry_end(s: &[u8], at: usize, shares: usize, remainder: usize, size: 
         size,
         link: at + TO_DIGEST,
         value,
-        end: value + VALUE,
+        end: value + DIGEST,
     })
 }
 

@@ -12,7 +12,7 @@ use Rattle.key.specs.Key.{shared}
 use Rattle.key.proofs.Laws.{shared-le-right}
 use Rattle.page.specs.Reading.{concat}
 use Rattle.page.specs.Number.{plainNumber, array, numberBytes}
-use Rattle.page.specs.Page.{linkBytes, gapBytes, entryBytes, RawPage, pageBytes}
+use Rattle.page.specs.Page.{linkBytes, gapBytes, valueBytes, entryBytes, RawPage, pageBytes}
 use Rattle.page_writer.specs.Front.{numberLength, linkIf, gapLength, entryStartBytes, entryStartLength, entryEndBytes, entryEndLength, entryAfter, entryLength, pageStartBytes, pageEndBytes}
 use Rattle.page.proofs.Numbers.{bytes-first, bytes-one, bytes-two}
 
@@ -35,10 +35,14 @@ unfolding numberLength numberBytes
 length-number kind n =
     cases (ltb n 24) (λ e. rw e) (λ e. cases (ltb n 256) (λ f. rw (e, f)) (λ f. rw (e, f)))
 
--- ---- links and gaps
+-- ---- links, values and gaps
 pub length-link : (digest : List ℕ) → length digest ≡ 32 → length (linkBytes digest) ≡ 41
 unfolding linkBytes
 length-link digest h = rw h
+
+pub length-value : (val : List ℕ) → length val ≡ 33 → length (valueBytes val) ≡ 41
+unfolding valueBytes
+length-value val h = omega (arith, length-drop 1 val)
 
 pub length-gap : (linked : Bool) (digest : List ℕ) → length digest ≡ 32 → length (gapBytes (linkIf linked digest)) ≡ gapLength linked
 unfolding gapBytes
@@ -50,16 +54,16 @@ pub length-start : (shares : ℕ) (remainder : List ℕ) → length (entryStartB
 unfolding entryStartBytes
 length-start shares remainder = simp (length-append, length-number) (omega arith)
 
-pub length-end : (linked : Bool) (digest val : List ℕ) → length digest ≡ 32 → length val ≡ 32 → length (entryEndBytes (linkIf linked digest) val) ≡ entryEndLength linked
+pub length-end : (linked : Bool) (digest val : List ℕ) → length digest ≡ 32 → length val ≡ 33 → length (entryEndBytes (linkIf linked digest) val) ≡ entryEndLength linked
 unfolding entryEndBytes
-length-end linked digest val hd hv = simp (length-append, length-gap linked digest hd, length-link val hv) (omega arith)
+length-end linked digest val hd hv = simp (length-append, length-gap linked digest hd, length-value val hv) (omega arith)
 
 pub entry-parts : (previous key : List ℕ) (after : Option (List ℕ)) (val : List ℕ)
     → entryBytes (entryAfter previous key after val) ≡ entryStartBytes (shared previous key) (drop (shared previous key) key) ++ entryEndBytes after val
 unfolding entryBytes entryAfter entryStartBytes entryEndBytes
 entry-parts previous key after val = simp append-assoc
 
-pub length-entry : (previous key : List ℕ) (linked : Bool) (digest val : List ℕ) → length digest ≡ 32 → length val ≡ 32
+pub length-entry : (previous key : List ℕ) (linked : Bool) (digest val : List ℕ) → length digest ≡ 32 → length val ≡ 33
     → length (entryBytes (entryAfter previous key (linkIf linked digest) val)) ≡ entryLength previous key linked
 length-entry previous key linked digest val hd hv =
     ap length (entry-parts previous key (linkIf linked digest) val)

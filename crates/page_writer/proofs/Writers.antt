@@ -4,13 +4,14 @@ use mathlib.Core.Path.{_≡_, refl, sym, ap, _∙_}
 use mathlib.Core.Bool.{Bool, true, false}
 use mathlib.Core.List.{List, [], _∷_, _++_, append-assoc}
 use native.Mathlib.Omega.{arith}
-use lib.ListN.{length, drop, length-append, length-drop}
+use lib.ListN.{length, take, drop, length-append, length-drop}
 use lib.Seq.{take-all}
 use Rattle.bytestring.proofs.Lending.{lent, back, onto}
 use Rattle.bytestring.specs.Bytes.{front}
 use Rattle.key.specs.Key.{shared}
+use Rattle.value.specs.Value.{valueCodec, valueDigest}
 use Rattle.page.specs.Number.{plainNumber, byteString, numberBytes}
-use Rattle.page.specs.Page.{linkBytes, null, gapBytes, entryBytes}
+use Rattle.page.specs.Page.{linkHead, linkBytes, null, gapBytes, valueBytes, entryBytes}
 use Rattle.page_writer.specs.Front.{numberLength, linkIf, gapLength, entryStartBytes, entryStartLength, entryEndBytes, entryEndLength, entryAfter, entryLength}
 use Rattle.page.proofs.Numbers.{bytes-first, bytes-one, bytes-two}
 use Rattle.page.proofs.Pages.{beforeRemainder, beforeShares, beforeGap, beforeValue}
@@ -30,7 +31,7 @@ module _ (kind n : ℕ) (o xs : List ℕ) where
   pub two-written : 256 ≤ n → xs ≡ front ((kind + 25) ∷ n / 256 ∷ n % 256 ∷ []) o → NumberWritten 3
   two-written h e = (e ∙ rw (bytes-two kind n h), sym (length-two n h))
 
--- ---- gaps
+-- ---- gaps and values
 module _ (linked : Bool) (digest o xs : List ℕ) where
   abbrev GapWritten : ℕ → Type 0
   GapWritten r = (xs ≡ front (gapBytes (linkIf linked digest)) o) × (r ≡ gapLength linked)
@@ -43,18 +44,25 @@ module _ (linked : Bool) (digest o xs : List ℕ) where
   unfolding gapBytes
   null-written e w = rw e (w, refl)
 
+pub value-written : (o val xs ys : List ℕ) → length val ≡ 33 → xs ≡ front (linkHead (valueCodec val)) o → ys ≡ front (take 32 (drop 1 val)) (lent 9 xs)
+    → back 9 xs ys ≡ front (valueBytes val) o
+unfolding valueBytes
+value-written o val xs ys h e f =
+    let all : take 32 (drop 1 val) ≡ valueDigest val = take-all 32 (drop 1 val) (omega (arith, length-drop 1 val)) in
+    onto o (linkHead (valueCodec val)) (valueDigest val) 9 xs ys e refl (f ∙ rw all)
+
 -- ---- entries
 pub end-written : (o digest val xs ys zs : List ℕ) (linked : Bool) (at : ℕ) → length digest ≡ 32
     → xs ≡ front (beforeGap ++ gapBytes (linkIf linked digest)) o → at ≡ 2 + gapLength linked
-    → ys ≡ front beforeValue (lent at xs) → zs ≡ front (linkBytes val) (lent (at + 2) (back at xs ys))
+    → ys ≡ front beforeValue (lent at xs) → zs ≡ front (valueBytes val) (lent (at + 2) (back at xs ys))
     → back (at + 2) (back at xs ys) zs ≡ front (entryEndBytes (linkIf linked digest) val) o
 unfolding entryEndBytes
 end-written o digest val xs ys zs linked at h e ea f g =
     let gap : List ℕ = beforeGap ++ gapBytes (linkIf linked digest) in
     let l : length gap ≡ at = omega (arith, length-gap linked digest h) in
     let k : length (gap ++ beforeValue) ≡ at + 2 = omega (arith, length-append gap beforeValue) in
-    onto o (gap ++ beforeValue) (linkBytes val) (at + 2) (back at xs ys) zs (onto o gap beforeValue at xs ys e l f) k g
-    ∙ ap (λ (p : List ℕ). front p o) (append-assoc gap beforeValue (linkBytes val))
+    onto o (gap ++ beforeValue) (valueBytes val) (at + 2) (back at xs ys) zs (onto o gap beforeValue at xs ys e l f) k g
+    ∙ ap (λ (p : List ℕ). front p o) (append-assoc gap beforeValue (valueBytes val))
 
 module _ (key : List ℕ) (shares : ℕ) (k : shares ≤ length key) where
   abbrev size : ℕ

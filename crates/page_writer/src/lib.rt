@@ -21,7 +21,7 @@ ghost use lib.ListN.{length, drop};
 ghost use Rattle.limits.specs.Limits.{numbers, longestKey};
 ghost use Rattle.bytestring.specs.Bytes.{front};
 ghost use Rattle.page.specs.Number.{numberBytes};
-ghost use Rattle.page.specs.Page.{linkBytes, gapBytes, entryBytes};
+ghost use Rattle.page.specs.Page.{linkBytes, gapBytes, valueBytes, entryBytes};
 ghost use Rattle.page_writer.specs.Front.{numberLength, linkIf, gapLength, entryStartBytes, entryStartLength, entryEndBytes, entryEndLength, entryLength, entryAfter, pageStartBytes, pageEndBytes};
 
 // How many bytes a number takes.
@@ -69,13 +69,24 @@ fn write_number_after(out: &mut [u8], bytes: &[u8], kind: u8, n: usize) -> usize
     at + write_number(&mut out[at..], kind, n)
 }
 
-// A link.
+// The link of a page.
 fn write_link(out: &mut [u8], digest: Digest)
     requires { ⌜ 41 ≤ length (now out) ⌝ }
     ensures { λ _. ⌜ now (out .exit) ≡ front (linkBytes digest) (now (out .entry)) ⌝ }
 {
     write_bytes(out, &LINK_HEAD);
     write_bytes(&mut out[9..], &digest);
+}
+
+// A value: a link with the value's own codec.
+fn write_value(out: &mut [u8], value: Value)
+    requires { ⌜ 41 ≤ length (now out) ⌝ }
+    ensures { λ _. ⌜ now (out .exit) ≡ front (valueBytes value) (now (out .entry)) ⌝ }
+{
+    let mut head = LINK_HEAD;
+    head[6] = value[0];
+    write_bytes(out, &head);
+    write_bytes(&mut out[9..], &value[1..]);
 }
 
 // How many bytes a gap takes.
@@ -134,7 +145,7 @@ fn write_entry_end(out: &mut [u8], linked: bool, link: Digest, value: Value) -> 
     let at = write_gap_after(out, &BEFORE_GAP, linked, link);
     write_bytes(&mut out[at..], &BEFORE_VALUE);
     let next = at + 2;
-    write_link(&mut out[next..], value);
+    write_value(&mut out[next..], value);
     next + 41
 }
 

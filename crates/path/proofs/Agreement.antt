@@ -12,7 +12,7 @@ use Rattle.bytestring.specs.Bytes.{Bytes, ByteString}
 use Rattle.bytestring.proofs.Equal.{equal-true}
 use Rattle.bytestring.proofs.Tools.{bytes-drop}
 use Rattle.answer.specs.declared.Refusal.{Refusal}
-use Rattle.answer.specs.declared.Refusal.the-variants.{TooLong, UnlawfulKey, ValueLength}
+use Rattle.answer.specs.declared.Refusal.the-variants.{TooLong, UnlawfulKey, WrongValue}
 use Rattle.fips180.specs.Hash.{sha256}
 use Rattle.value.specs.Value.{isDigest, valueIn}
 use Rattle.key.specs.Key.{lawful}
@@ -148,7 +148,7 @@ module _ (path k s : ByteString) (t : SpeltTree) (j : judge (s .list) ≡ accept
 
   -- a number may be due before the pages
   abbrev tests : List Test
-  tests = (TooLong, leb (length (path .list)) longest) ∷ (UnlawfulKey, lawful (k .list)) ∷ (ValueLength, isDigest (rootDigest t)) ∷ []
+  tests = (TooLong, leb (length (path .list)) longest) ∷ (UnlawfulKey, lawful (k .list)) ∷ (WrongValue, isDigest (rootDigest t)) ∷ []
 
   agrees : (o : Option Refusal) → due tests ≡ o → Agrees (unless o verdict) (path .list) (s .list) (k .list)
   unfolding unless

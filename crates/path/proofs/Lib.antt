@@ -1,4 +1,5 @@
 pub mod Searching
+pub mod Places
 pub mod Orders
 pub mod Trees
 pub mod Right

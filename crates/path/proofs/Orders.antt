@@ -13,11 +13,12 @@ use Rattle.limits.specs.Limits.{longest, deepest}
 use Rattle.bytestring.proofs.Equal.{equal-cases}
 use Rattle.bytestring.proofs.Tools.{bytes-drop}
 use Rattle.bytestring.specs.Bytes.{Bytes, equal}
-use Rattle.answer.specs.Answer.{numberOf, doneWith, said}
+use Rattle.answer.specs.Answer.{numberOf, doneWith, saidOfTwo}
 use Rattle.answer.specs.declared.Refusal.{Refusal}
-use Rattle.answer.specs.declared.Refusal.the-variants.{TooLong, EndsEarly, Departs, BytesFollow, WrongPrefix, UnlawfulKey, KeysNotRising, ValueLength, NoRoom, PageNotDue}
+use Rattle.answer.specs.declared.Refusal.the-variants.{TooLong, EndsEarly, Departs, BytesFollow, WrongPrefix, UnlawfulKey, KeysNotRising, WrongValue, NoRoom, PageNotDue}
 use Rattle.fips180.specs.Hash.{sha256}
-use Rattle.value.specs.Value.{isDigest}
+use Rattle.value.specs.Value.{isDigest, valueCodec, valueDigest}
+use Rattle.value.proofs.Laws.{value-codec}
 use Rattle.key.specs.Key.{lawful}
 use Rattle.page.specs.Reading.{Read, read, endsEarly, departs}
 use Rattle.page.specs.Page.{RawPage, pageBytes, page}
@@ -72,21 +73,21 @@ path-replies s key room = record {
 
 -- ---- verify
 -- what a verdict replies
-abbrev verdictReply : PathVerdict → Reply
-verdictReply v = record { answer = said (verifyAnswer v); outputs = []; head = none }
+abbrev verdictReply : List ℕ → PathVerdict → Reply
+verdictReply path v = record { answer = saidOfTwo (verifyAnswer path v); outputs = []; head = none }
 
-stop-refuses : (whole : Reply) (r : Refusal) → whole ≡ verdictReply (stopped r) → Refuses whole (numberOf r)
+stop-refuses : (path : List ℕ) (whole : Reply) (r : Refusal) → whole ≡ verdictReply path (stopped r) → Refuses whole (numberOf r)
 unfolding verifyAnswer
-stop-refuses whole r e = subst (λ (q : Reply). Refuses q (numberOf r)) (sym e) (record { answer = refl; outputs = tt; head = tt })
+stop-refuses path whole r e = subst (λ (q : Reply). Refuses q (numberOf r)) (sym e) (record { answer = refl; outputs = tt; head = tt })
 
-module _ (v : PathVerdict) where
+module _ (path : List ℕ) (v : PathVerdict) where
   -- the reply by the first number that is due
   abbrev dueReply : Option Refusal → Reply
-  dueReply o = verdictReply (unless o v)
+  dueReply o = verdictReply path (unless o v)
 
   due-refuses : (r : Refusal) → Refuses (dueReply (some r)) (numberOf r)
   unfolding unless
-  due-refuses r = stop-refuses (dueReply (some r)) r refl
+  due-refuses r = stop-refuses path (dueReply (some r)) r refl
 
 digest-fails : (a b : List ℕ) → (a ≡ b → ⊥) → equal a b ≡ false
 digest-fails a b h = equal-cases a b (λ _ e. absurd (h e)) (λ e _. e)
@@ -95,14 +96,14 @@ digest-passes : (a b : List ℕ) → ((a ≡ b → ⊥) → ⊥) → equal a b �
 digest-passes a b h = equal-cases a b (λ e _. e) (λ _ e. absurd (h e))
 
 module _ (path : List ℕ) (small : Bytes path) (k : List ℕ) (whole : Reply) where
-  ends-order : (rest : List ℕ) (v : PathVerdict) {done : Type 0} → whole ≡ verdictReply (atEnd v rest) → (whole ≡ verdictReply v → done) → SearchEnds rest whole done
+  ends-order : (rest : List ℕ) (v : PathVerdict) {done : Type 0} → whole ≡ verdictReply path (atEnd v rest) → (whole ≡ verdictReply path v → done) → SearchEnds rest whole done
   unfolding atEnd
   ends-order [] v e d = record { refuses = λ h. absurd (h refl); passes = λ _. d e }
-  ends-order (b ∷ rest) v e d = record { refuses = λ _. stop-refuses whole BytesFollow e; passes = λ h. absurd (h cons≢nil) }
+  ends-order (b ∷ rest) v e d = record { refuses = λ _. stop-refuses path whole BytesFollow e; passes = λ h. absurd (h cons≢nil) }
 
   abbrev Continues : ℕ → Type 0
   Continues depth =
-      (digest : List ℕ) (at : ℕ) → whole ≡ verdictReply (judgePages depth k digest at (drop at path)) → PagesOrder depth path k digest at whole
+      (digest : List ℕ) (at : ℕ) → whole ≡ verdictReply path (judgePages depth k digest at (drop at path)) → PagesOrder depth path k digest at whole
 
   module _ (depth at : ℕ) (next : Continues depth) (p : RawPage) (rest : List ℕ) (reads : page (drop at path) ≡ read p rest) where
     stands : (drop at path ≡ pageBytes p ++ rest) × GoodPage p
@@ -112,67 +113,68 @@ module _ (path : List ℕ) (small : Bytes path) (k : List ℕ) (whole : Reply) w
     later digest = judgePages depth k digest (at + length (pageBytes p)) rest
 
     -- in the gap it has come to there is a link, or none
-    gap-order : (gap : Option (List ℕ)) → StandsIn k p gap → whole ≡ verdictReply (goOn (inGap gap) rest later)
+    gap-order : (gap : Option (List ℕ)) → StandsIn k p gap → whole ≡ verdictReply path (goOn (inGap gap) rest later)
         → Searches k p path rest whole (λ digest. PagesOrder depth path k digest (at + length (pageBytes p)) whole)
     unfolding goOn verifyAnswer
     gap-order none w e = noLink w (ends-order rest absent e (λ d. ap (λ (r : Reply). r .answer) d))
     gap-order (some digest) w e =
-        let there = ap (λ (s : List ℕ). verdictReply (judgePages depth k digest (at + length (pageBytes p)) s)) (rest-is path at p rest (stands .0)) in
+        let there = ap (λ (s : List ℕ). verdictReply path (judgePages depth k digest (at + length (pageBytes p)) s)) (rest-is path at p rest (stands .0)) in
         hasLink digest w (next digest (at + length (pageBytes p)) (e ∙ there))
 
     search-order : Way k path (p .left) [] (at + entriesStart (p .entries)) (p .entries) (soughtIn k at p)
-        → whole ≡ verdictReply (goOn (soughtIn k at p) rest later)
+        → whole ≡ verdictReply path (goOn (soughtIn k at p) rest later)
         → Searches k p path rest whole (λ digest. PagesOrder depth path k digest (at + length (pageBytes p)) whole)
     unfolding goOn verifyAnswer
     search-order (found place v q f w) e =
-        isEntry v f (ends-order rest (present place) (e ∙ ap (λ s. verdictReply (goOn s rest later)) q) (λ d. record {
+        isEntry v f (ends-order rest (present place) (e ∙ ap (λ s. verdictReply path (goOn s rest later)) q) (λ d. record {
           place = place;
           some = omega (arith, w .ahead);
           within = omega (arith, w .within, entries-within path at p rest (stands .0));
-          answer = ap (λ (r : Reply). r .answer) d;
-          value = w .bytes;
+          answer = ap (λ (r : Reply). r .answer) d ∙ ap (λ (x : List ℕ). doneWith (place ∷ valueCodec x ∷ [])) (w .bytes);
+          codec = value-codec v (w .right);
+          digest = ap (λ (x : List ℕ). valueDigest x) (w .bytes);
         }))
     search-order (missed first after q split lesser greater) e =
         gap-order (lastGap (p .left) first)
         (record { before = first; later = after; whole = split; lesser = lesser; greater = greater; between = refl })
-        (e ∙ ap (λ s. verdictReply (goOn s rest later)) q)
+        (e ∙ ap (λ s. verdictReply path (goOn s rest later)) q)
 
-    page-order : (digest : List ℕ) → whole ≡ verdictReply (unless (due (pageTests digest p)) (goOn (soughtIn k at p) rest later))
+    page-order : (digest : List ℕ) → whole ≡ verdictReply path (unless (due (pageTests digest p)) (goOn (soughtIn k at p) rest later))
         → PageOrder digest p whole (Searches k p path rest whole (λ next. PagesOrder depth path k next (at + length (pageBytes p)) whole))
     unfolding pageTests due unless soughtIn
     page-order digest e₀ =
         let rs = recordsIn [] (p .entries) in
         let own : Bool = equal (sha256 (pageBytes p)) digest in
         let v = goOn (soughtIn k at p) rest later in
-        check whole (dueReply v) (due-refuses v) WrongPrefix (prefixesOf [] (p .entries))
+        check whole (dueReply path v) (due-refuses path v) WrongPrefix (prefixesOf [] (p .entries))
         ((UnlawfulKey, allLawful rs) ∷ (KeysNotRising, rising rs) ∷ (PageNotDue, own) ∷ []) (λ h. h) (lawful-passes (prefixesOf [] (p .entries))) e₀
-        (λ _ e₁. check whole (dueReply v) (due-refuses v) UnlawfulKey (allLawful rs) ((KeysNotRising, rising rs) ∷ (PageNotDue, own) ∷ [])
+        (λ _ e₁. check whole (dueReply path v) (due-refuses path v) UnlawfulKey (allLawful rs) ((KeysNotRising, rising rs) ∷ (PageNotDue, own) ∷ [])
         (λ h. h) (lawful-passes (allLawful rs)) e₁
-        (λ _ e₂. check whole (dueReply v) (due-refuses v) KeysNotRising (rising rs) ((PageNotDue, own) ∷ []) (λ h. h) (lawful-passes (rising rs)) e₂
-        (λ rise e₃. check whole (dueReply v) (due-refuses v) PageNotDue own []
+        (λ _ e₂. check whole (dueReply path v) (due-refuses path v) KeysNotRising (rising rs) ((PageNotDue, own) ∷ []) (λ h. h) (lawful-passes (rising rs)) e₂
+        (λ rise e₃. check whole (dueReply path v) (due-refuses path v) PageNotDue own []
         (digest-fails (sha256 (pageBytes p)) digest) (digest-passes (sha256 (pageBytes p)) digest) e₃
         (λ _ e₄. search-order
         (searched k path (p .left) [] (at + entriesStart (p .entries)) (p .entries) (stands .1 .entries) (entries-stand path at p rest (stands .0))
         (rising-sorted rs (lawful-passes (rising rs) rise))) e₄))))
 
   read-order : (depth at : ℕ) (digest : List ℕ) → Continues depth → (r : Read RawPage) → page (drop at path) ≡ r
-      → whole ≡ verdictReply (onPage r (λ p rest. unless (due (pageTests digest p)) (goOn (soughtIn k at p) rest (λ next. judgePages depth k next (at + length (pageBytes p)) rest))))
+      → whole ≡ verdictReply path (onPage r (λ p rest. unless (due (pageTests digest p)) (goOn (soughtIn k at p) rest (λ next. judgePages depth k next (at + length (pageBytes p)) rest))))
       → ReadOrder r whole (λ p rest.
       PageOrder digest p whole (Searches k p path rest whole (λ next. PagesOrder depth path k next (at + length (pageBytes p)) whole)))
   unfolding onPage
-  read-order depth at digest next endsEarly q e = stop-refuses whole EndsEarly e
-  read-order depth at digest next departs q e = stop-refuses whole Departs e
+  read-order depth at digest next endsEarly q e = stop-refuses path whole EndsEarly e
+  read-order depth at digest next departs q e = stop-refuses path whole Departs e
   read-order depth at digest next (read p rest) q e = page-order depth at next p rest q digest e
 
   -- a page too many
-  last-page : (digest : List ℕ) (at : ℕ) (s : List ℕ) → drop at path ≡ s → whole ≡ verdictReply (judgePages zero k digest at s) → PagesOrder zero path k digest at whole
+  last-page : (digest : List ℕ) (at : ℕ) (s : List ℕ) → drop at path ≡ s → whole ≡ verdictReply path (judgePages zero k digest at s) → PagesOrder zero path k digest at whole
   unfolding judgePages
   last-page digest at [] q e = record {
     refuses = λ h. absurd (omega (arith, ap length q, length-drop at path));
-    passes = λ _. stop-refuses whole EndsEarly e;
+    passes = λ _. stop-refuses path whole EndsEarly e;
   }
   last-page digest at (b ∷ s) q e = record {
-    refuses = λ _. stop-refuses whole Departs e;
+    refuses = λ _. stop-refuses path whole Departs e;
     passes = λ h. absurd (h (omega (arith, ap length q, length-drop at path)));
   }
 
@@ -197,8 +199,8 @@ verify-replies bytes key digest =
     let root = digest .list in
     let whole = verifyReply path k root in
     let v = judgePages deepest k root 0 path in
-    check whole (dueReply v) (due-refuses v) TooLong (leb (length path) longest) ((UnlawfulKey, lawful k) ∷ (ValueLength, isDigest root) ∷ [])
+    check whole (dueReply path v) (due-refuses path v) TooLong (leb (length path) longest) ((UnlawfulKey, lawful k) ∷ (WrongValue, isDigest root) ∷ [])
     (lt-leb (length path) longest) (λ h. le-leb (length path) longest (within (length path) longest h)) refl
-    (λ _ e₁. check whole (dueReply v) (due-refuses v) UnlawfulKey (lawful k) ((ValueLength, isDigest root) ∷ []) (λ h. h) (lawful-passes (lawful k)) e₁
-    (λ _ e₂. check whole (dueReply v) (due-refuses v) ValueLength (isDigest root) [] (root-fails root) (root-passes root) e₂
+    (λ _ e₁. check whole (dueReply path v) (due-refuses path v) UnlawfulKey (lawful k) ((WrongValue, isDigest root) ∷ []) (λ h. h) (lawful-passes (lawful k)) e₁
+    (λ _ e₂. check whole (dueReply path v) (due-refuses path v) WrongValue (isDigest root) [] (root-fails root) (root-passes root) e₂
     (λ _ e₃. pages-order path (bytes .small) k whole deepest root 0 e₃)))

@@ -8,16 +8,18 @@ use native.Mathlib.Omega.{arith}
 use lib.ListN.{length, drop, length-append, length-drop}
 use lib.Seq.{drop-drop, drop-append-seam}
 use Rattle.bytestring.proofs.Tools.{All}
-use Rattle.value.specs.Value.{valueLength, valueIn}
+use Rattle.value.specs.Value.{digestLength, isValue, valueIn}
+use Rattle.value.proofs.Laws.{value-digest}
 use Rattle.key.specs.Key.{less}
 use Rattle.key.proofs.Laws.{less-connected, less-same, less-asymmetric}
 use Rattle.page.specs.Reading.{concat}
 use Rattle.page.specs.Number.{array, numberBytes}
-use Rattle.page.specs.Page.{linkBytes, gapBytes, RawEntry, entryBytes, RawPage, pageBytes}
+use Rattle.page.specs.Page.{gapBytes, valueBytes, RawEntry, entryBytes, RawPage, pageBytes}
 use Rattle.page.proofs.Pages.{GoodEntry}
+use Rattle.page.proofs.Standing.{value-there}
 use Rattle.tree.specs.Record.{Record}
 use Rattle.tree.specs.OnePage.{entriesStart, keyAfter, recordsIn}
-use Rattle.tree.proofs.Laws.{At, at-left, at-right, at-both, value-at}
+use Rattle.tree.proofs.Laws.{At, at-left, at-right, at-both}
 use Rattle.promises.specs.Map.{find}
 use Rattle.promises.proofs.MapLaws.{Before, Above, above-before, Sorted, find-here, find-later}
 use Rattle.path.specs.Verify.{Sought, valueAt, inGap, soughtFrom}
@@ -32,7 +34,7 @@ module _ (k : List ℕ) (gap : Option (List ℕ)) (before : List ℕ) (at : ℕ)
   unfolding soughtFrom
   sought-before h = rw h
 
-  pub sought-here : k ≡ keyAfter before e → whole ≡ valueAt (at + length (entryBytes e) - valueLength)
+  pub sought-here : k ≡ keyAfter before e → whole ≡ valueAt (at + length (entryBytes e) - digestLength)
   unfolding soughtFrom
   sought-here h = rw (less-same k (keyAfter before e) h, less-same (keyAfter before e) k (sym h))
 
@@ -41,14 +43,15 @@ module _ (k : List ℕ) (gap : Option (List ℕ)) (before : List ℕ) (at : ℕ)
   sought-later h = rw (h, less-asymmetric (keyAfter before e) k h)
 
 -- ---- where the value stands
-entry-long : (e : RawEntry) → length (e .val) ≡ 32 → 32 < length (entryBytes e)
-unfolding entryBytes linkBytes
-entry-long e h = simp length-append (omega arith)
+entry-long : (e : RawEntry) → isValue (e .val) ≡ true → 32 < length (entryBytes e)
+unfolding entryBytes valueBytes
+entry-long e h = simp length-append (omega (arith, value-digest (e .val) h))
 
--- A value stands at a place, between two others.
+-- A value's digest stands at a place, between two others.
 pub record ValueStands (path : List ℕ) (from place to : ℕ) (v : List ℕ) : Type 0 where
   pub ahead : from < place
-  pub within : place + valueLength ≤ to
+  pub within : place + digestLength ≤ to
+  pub right : isValue v ≡ true
   pub bytes : valueIn path place ≡ v
 
 -- The search has found an entry's value, or it has come to a gap.
@@ -72,7 +75,7 @@ module _ (k path : List ℕ) where
   unfolding recordsIn
   further gap before at e es h (found place v q f w) =
       found place v (sought-later k gap before at e es h ∙ q) (find-later k (record { key = keyAfter before e; val = e .val }) (recordsIn (keyAfter before e) es) h ∙ f)
-      (record { ahead = omega (arith, w .ahead); within = omega (arith, w .within, length-append (entryBytes e) (concat entryBytes es)); bytes = w .bytes })
+      (record { ahead = omega (arith, w .ahead); within = omega (arith, w .within, length-append (entryBytes e) (concat entryBytes es)); right = w .right; bytes = w .bytes })
   further gap before at e es h (missed first later q split lesser greater) =
       missed (e ∷ first) later (sought-later k gap before at e es h ∙ q) (ap (λ (l : List RawEntry). e ∷ l) split) (h, lesser) greater
 
@@ -91,7 +94,8 @@ module _ (k path : List ℕ) where
       (λ h. found (end - 32) (e .val) (sought-here k gap before at e es h) (find-here k r later h) (record {
         ahead = omega (arith, entry-long e (g .0 .val));
         within = omega (arith, size, entry-long e (g .0 .val));
-        bytes = value-at path at e (g .0) (at-left path at (entryBytes e) (concat entryBytes es) b);
+        right = g .0 .val;
+        bytes = let l = at-left path at (entryBytes e) (concat entryBytes es) b in value-there e (g .0 .val) path at (l .0) (l .1);
       }))
       (λ h. further gap before at e es h (searched (e .after) key end es (g .1) (at-right path at (entryBytes e) (concat entryBytes es) b) (s .1)))
 
@@ -100,7 +104,7 @@ pub found-value : (k path : List ℕ) (gap : Option (List ℕ)) (before : List �
     → (place : ℕ) → sought ≡ valueAt place → find k (recordsIn before es) ≡ some (valueIn path place)
 found-value k path gap before at es sought (found there v q f w) place e =
     let same : there ≡ place = cc in
-    f ∙ ap some (sym (w .bytes) ∙ ap (valueIn path) same)
+    f ∙ ap some (sym (w .bytes) ∙ ap (λ (n : ℕ). valueIn path n) same)
 found-value k path gap before at es sought (missed first later q split lesser greater) place e = let z : _≡_ {A = ℕ} 0 1 = cc in absurd (omega arith)
 
 -- ---- a page that stands in a path

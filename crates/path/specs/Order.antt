@@ -6,9 +6,9 @@ use mathlib.Core.Option.{Option, none, some}
 use mathlib.Core.List.{List, [], _∷_, _++_}
 use lib.ListN.{length, drop}
 use Rattle.limits.specs.Limits.{longest, deepest}
-use Rattle.answer.specs.Answer.{doneWith, said}
+use Rattle.answer.specs.Answer.{doneWith, saidOfTwo}
 use Rattle.fips180.specs.Hash.{sha256}
-use Rattle.value.specs.Value.{digestLength, valueLength, valueIn}
+use Rattle.value.specs.Value.{digestLength, digestIn, isCodec, valueCodec, valueDigest}
 use Rattle.key.specs.Key.{lawful, less}
 use Rattle.page.specs.Reading.{Read, read, endsEarly, departs}
 use Rattle.page.specs.Page.{RawEntry, RawPage, pageBytes, page}
@@ -26,7 +26,7 @@ abbrev pub pathReply : List ℕ → List ℕ → ℕ → Reply
 pathReply s k room = writingReply (pathOutcome s k room) room
 
 abbrev pub verifyReply : List ℕ → List ℕ → List ℕ → Reply
-verifyReply path k root = record { answer = said (verifyAnswer (verifyVerdict path k root)); outputs = []; head = none }
+verifyReply path k root = record { answer = saidOfTwo (verifyAnswer path (verifyVerdict path k root)); outputs = []; head = none }
 
 -- ---- path
 -- The key argument; 13 where the path is longer than the output. The path is written, and its length is answered.
@@ -65,19 +65,21 @@ pub record StandsIn (k : List ℕ) (p : RawPage) (gap : Option (List ℕ)) : Typ
 abbrev pub SearchEnds : List ℕ → Reply → Type 0 → Type 0
 SearchEnds rest reply done = Check reply 4 (rest ≡ [] → ⊥) done
 
--- Present is answered by the place where the value stands in the path. That is never 0, which is the answer for absent.
+-- Present is answered by the place where the value's digest stands in the path, and the value's codec. Neither is 0, as both are in the answer
+-- for absent.
 pub record Present (path : List ℕ) (reply : Reply) (v : List ℕ) : Type 0 where
   pub place : ℕ
   pub some : 0 < place
-  pub within : place + valueLength ≤ length path
-  pub answer : reply .answer ≡ doneWith (place ∷ [])
-  pub value : valueIn path place ≡ v
+  pub within : place + digestLength ≤ length path
+  pub answer : reply .answer ≡ doneWith (place ∷ valueCodec v ∷ [])
+  pub codec : isCodec (valueCodec v) ≡ true
+  pub digest : digestIn path place ≡ valueDigest v
 
 -- The search in a page: the key is an entry; or it would stand in a gap without a link, and is absent; or in a gap with a link, and the page
 -- with that digest is due.
 pub data Searches (k : List ℕ) (p : RawPage) (path rest : List ℕ) (reply : Reply) (due : List ℕ → Type 0) : Type 0 where
   isEntry : (v : List ℕ) → find k (recordsIn [] (p .entries)) ≡ some v → SearchEnds rest reply (Present path reply v) → Searches k p path rest reply due
-  noLink : StandsIn k p none → SearchEnds rest reply (reply .answer ≡ doneWith (0 ∷ [])) → Searches k p path rest reply due
+  noLink : StandsIn k p none → SearchEnds rest reply (reply .answer ≡ doneWith (0 ∷ 0 ∷ [])) → Searches k p path rest reply due
   hasLink : (digest : List ℕ) → StandsIn k p (some digest) → due digest → Searches k p path rest reply due
 
 -- A page is due: 2 where the path ends while a byte is due, 3 where a byte departs.

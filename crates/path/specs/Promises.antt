@@ -7,10 +7,10 @@ use mathlib.Core.List.{List, [], _∷_, _++_}
 use lib.ListN.{length}
 use Rattle.limits.specs.Limits.{deepest}
 use Rattle.bytestring.specs.Bytes.{ByteString}
-use Rattle.answer.specs.Answer.{refusedWith, doneWith}
+use Rattle.answer.specs.Answer.{refusedWith, doneWith, encodedOfTwo, saidOfTwo, takenApartInTwo}
 use Rattle.answer.specs.declared.Refusal.{Refusal}
 use Rattle.fips180.specs.Hash.{sha256}
-use Rattle.value.specs.Value.{valueIn}
+use Rattle.value.specs.Value.{digestIn, codecIn, valueIn}
 use Rattle.key.specs.Key.{lawful}
 use Rattle.page.specs.Reading.{Read, read, endsEarly, departs}
 use Rattle.page.specs.Page.{RawPage, pageBytes, page}
@@ -23,7 +23,7 @@ use Rattle.promises.specs.Outcome.{wrote}
 use Rattle.promises.specs.Reply.{lookupReply}
 use Rattle.promises.specs.Promises.{DigestsApart}
 use Rattle.path.specs.Path.{pathOf, pathOutcome}
-use Rattle.path.specs.Verify.{PathVerdict, stopped, absent, present, verifyVerdict}
+use Rattle.path.specs.Verify.{PathVerdict, stopped, absent, present, verifyVerdict, verifyAnswer}
 use Rattle.path.specs.Order.{pathReply, verifyReply, PathOrder, VerifyOrder}
 
 -- The calls are refused in the order of checks: when each number is given, and what is answered and written otherwise.
@@ -33,6 +33,13 @@ PathReplies = (s k : ByteString) (room : ℕ) → PathOrder (s .list) (k .list) 
 abbrev pub VerifyReplies : Type 0
 VerifyReplies =
     (path k root : ByteString) → VerifyOrder (path .list) (k .list) (root .list) (verifyReply (path .list) (k .list) (root .list))
+
+-- Verify's answer as one number comes apart into its two values, or the number of its refusal.
+abbrev pub VerifyComesApart : Type 0
+VerifyComesApart =
+    (path k root : ByteString)
+    → takenApartInTwo (encodedOfTwo (verifyAnswer (path .list) (verifyVerdict (path .list) (k .list) (root .list))))
+    ≡ saidOfTwo (verifyAnswer (path .list) (verifyVerdict (path .list) (k .list) (root .list)))
 
 -- A register's root digest is that of its root page.
 abbrev pub rootDigest : SpeltTree → List ℕ
@@ -48,12 +55,12 @@ unfoldable pub pagesOfPath : ℕ → List ℕ → List (List ℕ)
 pagesOfPath zero s = []
 pagesOfPath (suc depth) s = pagesRead (page s) (pagesOfPath depth)
 
--- A verdict agrees with lookup: absent where lookup says so, and present with the value that lookup finds.
+-- A verdict agrees with lookup: absent where lookup says so, and present with the codec and the digest that lookup finds.
 abbrev pub Agrees : PathVerdict → List ℕ → List ℕ → List ℕ → Type 0
 Agrees (stopped r) path s k = Unit {0}
 Agrees absent path s k = lookupReply s k .answer ≡ refusedWith 12
 Agrees (present place) path s k =
-    (there : ℕ) × (lookupReply s k .answer ≡ doneWith (there ∷ [])) × (valueIn s there ≡ valueIn path place)
+    (there : ℕ) × (lookupReply s k .answer ≡ doneWith (there ∷ codecIn path place ∷ [])) × (digestIn s there ≡ digestIn path place)
 
 -- A verdict agrees with lookup in every register of that root digest, provided no two unequal pages of path and register share a digest.
 abbrev pub VerdictAgrees : Type 0

@@ -7,12 +7,12 @@ use lib.ListN.{length}
 use lib.Dec.{leb}
 use Rattle.limits.specs.Limits.{longest, deepest}
 use Rattle.answer.specs.declared.Refusal.{Refusal}
-use Rattle.answer.specs.declared.Refusal.the-variants.{TooLong, EndsEarly, Departs, BytesFollow, WrongPrefix, UnlawfulKey, KeysNotRising, ValueLength, PageNotDue}
-use Rattle.answer.specs.declared.Answer.{Answer}
-use Rattle.answer.specs.declared.Answer.the-variants.{Done, Refused}
+use Rattle.answer.specs.declared.Refusal.the-variants.{TooLong, EndsEarly, Departs, BytesFollow, WrongPrefix, UnlawfulKey, KeysNotRising, WrongValue, PageNotDue}
+use Rattle.answer.specs.declared.AnswerOfTwo.{AnswerOfTwo}
+use Rattle.answer.specs.declared.AnswerOfTwo.the-variants.{Both, Refused}
 use Rattle.bytestring.specs.Bytes.{equal}
 use Rattle.fips180.specs.Hash.{sha256}
-use Rattle.value.specs.Value.{isDigest, valueLength}
+use Rattle.value.specs.Value.{digestLength, isDigest, codecIn}
 use Rattle.key.specs.Key.{lawful, less}
 use Rattle.page.specs.Reading.{Read, read, endsEarly, departs}
 use Rattle.page.specs.Page.{RawEntry, entryBytes, RawPage, pageBytes, page}
@@ -20,25 +20,25 @@ use Rattle.tree.specs.Judge.{Test, due, allLawful, rising}
 use Rattle.tree.specs.OnePage.{entriesStart, keyAfter, prefixesOf, recordsIn}
 
 -- ---- the search in one page
--- The key is an entry, whose value stands at a place; or it would stand in a gap, which has a link or none.
+-- The key is an entry, whose value's digest stands at a place; or it would stand in a gap, which has a link or none.
 pub data Sought : Type 0 where
   valueAt : ℕ → Sought
   inGap : Option (List ℕ) → Sought
 
--- The entries from a place on, after the key `before`; `gap` is the gap before them. An entry's bytes end with its value's.
+-- The entries from a place on, after the key `before`; `gap` is the gap before them. An entry's bytes end with its value's digest.
 unfoldable pub soughtFrom : List ℕ → Option (List ℕ) → List ℕ → ℕ → List RawEntry → Sought
 soughtFrom k gap before at [] = inGap gap
 soughtFrom k gap before at (e ∷ es) =
     let end : ℕ = at + length (entryBytes e) in
     let later : Sought = soughtFrom k (e .after) (keyAfter before e) end es in
-    cond (less k (keyAfter before e)) (inGap gap) (cond (less (keyAfter before e) k) later (valueAt (end - valueLength)))
+    cond (less k (keyAfter before e)) (inGap gap) (cond (less (keyAfter before e) k) later (valueAt (end - digestLength)))
 
 -- A page that begins at a place.
 unfoldable pub soughtIn : List ℕ → ℕ → RawPage → Sought
 soughtIn k at p = soughtFrom k (p .left) [] (at + entriesStart (p .entries)) (p .entries)
 
 -- ---- what a path says
--- It is refused, or it says that the key is absent, or present with its value at a place of the path.
+-- It is refused, or it says that the key is absent, or present with its value's digest at a place of the path.
 pub data PathVerdict : Type 0 where
   stopped : Refusal → PathVerdict
   absent : PathVerdict
@@ -88,11 +88,11 @@ judgePages (suc depth) k digest at s =
 -- The path's length is judged first, then the key argument and the root digest's length.
 unfoldable pub verifyVerdict : List ℕ → List ℕ → List ℕ → PathVerdict
 verifyVerdict path k root =
-    unless (due ((TooLong, leb (length path) longest) ∷ (UnlawfulKey, lawful k) ∷ (ValueLength, isDigest root) ∷ []))
+    unless (due ((TooLong, leb (length path) longest) ∷ (UnlawfulKey, lawful k) ∷ (WrongValue, isDigest root) ∷ []))
     (judgePages deepest k root 0 path)
 
--- Absent is answered as 0, present by the place of the value's 32 bytes.
-unfoldable pub verifyAnswer : PathVerdict → Answer
-verifyAnswer (stopped r) = Refused r
-verifyAnswer absent = Done 0
-verifyAnswer (present place) = Done place
+-- Absent is answered as 0, present by the place of the value's 32 digest bytes, with the value's codec beside it.
+unfoldable pub verifyAnswer : List ℕ → PathVerdict → AnswerOfTwo
+verifyAnswer path (stopped r) = Refused r
+verifyAnswer path absent = Both 0 0
+verifyAnswer path (present place) = Both place (codecIn path place)

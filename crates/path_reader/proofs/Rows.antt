@@ -12,7 +12,7 @@ use borrow.Table.Steps.{cases}
 use Rattle.limits.specs.Limits.{longestKey, numbers}
 use Rattle.bytestring.proofs.Tools.{and-inv, and-both}
 use Rattle.bytestring.specs.Bytes.{Bytes}
-use Rattle.value.specs.Value.{valueLength}
+use Rattle.value.specs.Value.{digestLength}
 use Rattle.key.specs.Key.{lawful, less, shared}
 use Rattle.key.proofs.Laws.{lawful-length}
 use Rattle.page.specs.Reading.{read, times}
@@ -94,11 +94,11 @@ module _ (s key before : List ℕ) (at : ℕ) (e : EntryAt) where
   abbrev k : List ℕ
   k = keyAfter before (entryAt s e)
 
-  sought-past : e .end ≡ at + length (entryBytes (entryAt s e)) → e .value + valueLength ≡ e .end → (es : List RawEntry) (search : Search)
+  sought-past : e .end ≡ at + length (entryBytes (entryAt s e)) → e .value + digestLength ≡ e .end → (es : List RawEntry) (search : Search)
       → soughtOn s key before at (entryAt s e ∷ es) search ≡ soughtOn s key k (e .end) es (goPast key k e search)
   unfolding soughtFrom
   sought-past to last es (On gap) =
-      let place : e .end - valueLength ≡ e .value = omega arith in
+      let place : e .end - digestLength ≡ e .value = omega arith in
       cases (less key k)
       (λ p. rw p)
       (λ p. rw p (cases (less k key) (λ q. rw (q, to)) (λ q. rw (q, ← to, place))))

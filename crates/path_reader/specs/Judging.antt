@@ -2,11 +2,13 @@
 use Prim.Native.Nat.{ℕ, zero, suc, _+_, _≤_, _<_}
 use mathlib.Core.Path.{_≡_}
 use mathlib.Core.Bool.{Bool, true, cond, _&&_}
-use mathlib.Core.List.{List, [], _++_}
+use mathlib.Core.List.{List, [], _∷_, _++_}
 use lib.ListN.{length, take, drop}
 use Rattle.answer.specs.declared.Refusal.{Refusal}
-use Rattle.answer.specs.declared.Refusal.the-variants.{EndsEarly as Early, Departs as Departing}
-use Rattle.value.specs.Value.{digestLength, digestIn, valueLength}
+use Rattle.answer.specs.declared.Refusal.the-variants.{EndsEarly as Early, Departs as Departing, BytesFollow}
+use Rattle.answer.specs.declared.AnswerOfTwo.{AnswerOfTwo}
+use Rattle.answer.specs.declared.AnswerOfTwo.the-variants.{Both, Refused as BothRefused}
+use Rattle.value.specs.Value.{digestLength, digestIn}
 use Rattle.key.specs.Key.{lawful, less, shared}
 use Rattle.page.specs.Reading.{read, times}
 use Rattle.page.specs.Page.{RawEntry, RawPage, entry, page}
@@ -56,10 +58,10 @@ soughtBy s (On link) = inGap (linkAt s link)
 soughtBy s (Value value) = valueAt value
 soughtBy s (Gap link) = inGap (linkAt s link)
 
--- All bytes of a digest or a value stand at its place.
+-- All bytes of a digest stand at its place.
 abbrev pub SearchWithin : List ℕ → Search → Type 0
 SearchWithin s (On link) = 0 < link → link + digestLength ≤ length s
-SearchWithin s (Value value) = value + valueLength ≤ length s
+SearchWithin s (Value value) = value + digestLength ≤ length s
 SearchWithin s (Gap link) = 0 < link → link + digestLength ≤ length s
 
 -- What is said of a row of entries that begins at a place. The test of prefixes may fail where they are right, but not hold where one is wrong;
@@ -105,9 +107,9 @@ fromPage path key depth (Absent end) = atEnd absent (drop end path)
 fromPage path key depth (Linked link end) = judgePages depth key (digestIn path link) end (drop end path)
 fromPage path key depth (Refused r) = stopped r
 
--- All bytes of the digest or the value that it names stand in the path.
+-- All bytes of the digest that it names stand in the path.
 abbrev pub VerdictWithin : List ℕ → PageVerdict → Type 0
-VerdictWithin path (Present value end) = value + valueLength ≤ length path
+VerdictWithin path (Present value end) = value + digestLength ≤ length path
 VerdictWithin path (Absent end) = Unit {0}
 VerdictWithin path (Linked link end) = link + digestLength ≤ length path
 VerdictWithin path (Refused r) = Unit {0}
@@ -116,3 +118,9 @@ VerdictWithin path (Refused r) = Unit {0}
 pub record JudgesPage (path : List ℕ) (at : ℕ) (key digest : List ℕ) (r : PageVerdict) : Type 0 where
   pub says : (depth : ℕ) → judgePages (suc depth) key digest at (drop at path) ≡ fromPage path key depth r
   pub within : VerdictWithin path r
+
+-- ---- where the search has ended
+-- Two values are answered; bytes left draw 4.
+abbrev pub endAnswer : ℕ → ℕ → List ℕ → AnswerOfTwo
+endAnswer place codec [] = Both place codec
+endAnswer place codec (b ∷ rest) = BothRefused BytesFollow

@@ -1,7 +1,7 @@
 // The pages of a path, one after the other.
 use crate::entries::Search;
 use crate::entries::judge_entries;
-use answer::Answer;
+use answer::AnswerOfTwo;
 use answer::Refusal;
 use bytestring::same_bytes;
 use limits::DEEPEST;
@@ -12,6 +12,7 @@ use page_reader::Stop;
 use page_reader::read_page;
 use sha256::digest_of;
 use value::Digest;
+use value::codec_at;
 use value::digest_at;
 ghost use mathlib.Core.Path.{_≡_};
 ghost use mathlib.Core.Bool.{false};
@@ -19,10 +20,10 @@ ghost use Prim.Native.Nat.{_≤_};
 ghost use lib.ListN.{length, drop};
 ghost use Rattle.limits.specs.Limits.{deepest, longest};
 ghost use Rattle.bytestring.specs.Bytes.{Bytes};
-ghost use Rattle.path.specs.Verify.{present, atEnd, judgePages, verifyAnswer};
-ghost use Rattle.path_reader.specs.Judging.{refusalOf, JudgesPrefixes, saidInGap, saidBy, JudgesPage};
+ghost use Rattle.path.specs.Verify.{judgePages, verifyAnswer};
+ghost use Rattle.path_reader.specs.Judging.{refusalOf, JudgesPrefixes, saidInGap, saidBy, JudgesPage, endAnswer};
 
-// What a page says: the key is an entry, whose value stands at a place; it would stand in a gap without a link; it would stand in a gap whose
+// What a page says: the key is an entry, whose value's digest stands at a place; it would stand in a gap without a link; it would stand in a gap whose
 // link's digest is at a place; or the page is refused. A page that is not refused ends before the place that is given last.
 pub enum PageVerdict {
     Present(usize, usize),
@@ -116,21 +117,21 @@ fn judge_page(path: &[u8], at: usize, key: &[u8], due: &Digest) -> PageVerdict
     }
 }
 
-// The search has ended in the page that ends before the place end: bytes left draw 4.
-fn at_end(path: &[u8], end: usize, value: usize) -> Answer
-    requires { ⌜ (length (now path) ≤ longest) × (value ≤ length (now path)) ⌝ }
-    ensures { λ r. ⌜ r ≡ verifyAnswer (atEnd (present value) (drop end (now (path .entry)))) ⌝ }
+// The search has ended in the page that ends before the place end, with these two values: bytes left draw 4.
+fn at_end(path: &[u8], end: usize, place: usize, codec: u8) -> AnswerOfTwo
+    requires { ⌜ place ≤ longest ⌝ }
+    ensures { λ r. ⌜ r ≡ endAnswer place codec (drop end (now (path .entry))) ⌝ }
 {
     if end < path.len() {
-        return Answer::Refused(Refusal::BytesFollow);
+        return AnswerOfTwo::Refused(Refusal::BytesFollow);
     }
-    Answer::Done(value as u32)
+    AnswerOfTwo::Both(place as u32, codec as u32)
 }
 
 // The pages, as long as the search goes on.
-pub fn judge_pages(path: &[u8], key: &[u8], root: Digest) -> Answer
+pub fn judge_pages(path: &[u8], key: &[u8], root: Digest) -> AnswerOfTwo
     requires { ⌜ length (now path) ≤ longest ⌝ }
-    ensures { λ r. ⌜ r ≡ verifyAnswer (judgePages deepest (now (key .entry)) root 0 (now (path .entry))) ⌝ }
+    ensures { λ r. ⌜ r ≡ verifyAnswer (now (path .entry)) (judgePages deepest (now (key .entry)) root 0 (now (path .entry))) ⌝ }
 {
     let mut due = root;
     let mut at = 0;
@@ -138,23 +139,23 @@ pub fn judge_pages(path: &[u8], key: &[u8], root: Digest) -> Answer
     while level < DEEPEST {
         match judge_page(path, at, key, &due) {
             PageVerdict::Present(value, end) => {
-                return at_end(path, end, value);
+                return at_end(path, end, value, codec_at(path, value));
             }
             PageVerdict::Absent(end) => {
-                return at_end(path, end, 0);
+                return at_end(path, end, 0, 0);
             }
             PageVerdict::Linked(link, end) => {
                 due = digest_at(path, link);
                 at = end;
             }
             PageVerdict::Refused(refusal) => {
-                return Answer::Refused(refusal);
+                return AnswerOfTwo::Refused(refusal);
             }
         }
         level += 1;
     }
     if at < path.len() {
-        return Answer::Refused(Refusal::Departs);
+        return AnswerOfTwo::Refused(Refusal::Departs);
     }
-    Answer::Refused(Refusal::EndsEarly)
+    AnswerOfTwo::Refused(Refusal::EndsEarly)
 }

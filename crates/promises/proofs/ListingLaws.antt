@@ -1,4 +1,4 @@
--- The first bytes of an input decide its listing, and every listing fits. A line has at most 322 bytes. An entry has at least 53, so that
+-- The first bytes of an input decide its listing, and every listing fits. A line has at most 324 bytes. An entry has at least 53, so that
 -- 65,536 bytes have at most 1,236 records.
 use Prim.Native.Nat.{ℕ, zero, suc, _+_, _*_, _/_, _%_, _≤_, _<_}
 use mathlib.Core.Path.{_≡_, refl, sym, ap, _∙_}
@@ -7,7 +7,7 @@ use native.Mathlib.Omega.{arith}
 use lib.ListN.{length, take, length-append}
 use lib.Seq.{take-all, length-take-le}
 use lib.Dec.{ltb, leb}
-use borrow.Author.Tests.{eqb-true, leb-true, leb-false, lt-leb}
+use borrow.Author.Tests.{leb-true, leb-false, lt-leb}
 use borrow.Table.Steps.{cases}
 use Rattle.limits.specs.Limits.{deepest}
 use Rattle.bytestring.proofs.Tools.{All}
@@ -16,7 +16,7 @@ use Rattle.answer.specs.Answer.{numberOf}
 use Rattle.answer.specs.declared.Refusal.{Refusal}
 use Rattle.answer.specs.declared.Refusal.the-variants.{TooLong}
 use Rattle.key.proofs.Laws.{lawful-length}
-use Rattle.value.specs.Value.{isValue}
+use Rattle.value.proofs.Laws.{value-length}
 use Rattle.tree.specs.Record.{Record, records}
 use Rattle.tree.specs.Table.{SpeltTree, table, tableOf}
 use Rattle.tree.specs.Judge.{Verdict, refused, accepted, judge}
@@ -55,15 +55,15 @@ hexadecimal-length [] = refl
 hexadecimal-length (b ∷ l) = omega (arith, hexadecimal-length l)
 
 -- ---- lines
-lines-length : (rs : List Record) → All LawfulKey rs → All RightValue rs → length (recordLines rs) ≤ 322 * length rs
-unfolding recordLines isValue
+lines-length : (rs : List Record) → All LawfulKey rs → All RightValue rs → length (recordLines rs) ≤ 324 * length rs
+unfolding recordLines
 lines-length [] h k = omega arith
 lines-length (r ∷ rs) h k =
     let value : List ℕ = hexadecimal (r .val) ++ (lineFeed ∷ recordLines rs) in
     omega (
       arith,
       lawful-length (r .key) (h .0),
-      eqb-true (length (r .val)) 32 (k .0),
+      value-length (r .val) (k .0),
       hexadecimal-length (r .val),
       length-append (r .key) (space ∷ value),
       length-append (hexadecimal (r .val)) (lineFeed ∷ recordLines rs),

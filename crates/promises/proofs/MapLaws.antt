@@ -14,7 +14,8 @@ use Rattle.value.specs.Value.{isValue}
 use Rattle.tree.specs.Record.{Record}
 use Rattle.tree.specs.Judge.{rising, fits}
 use Rattle.tree.proofs.Laws.{LawfulKey, RightValue, fitting}
-use Rattle.promises.specs.Map.{find, isThere, insert, put, greater, join, remove, merge, greaterFound, nth}
+use Rattle.promises.specs.Map.{find, isThere, insert, put, lessValue, greater, join, remove, merge, greaterFound, nth}
+use Rattle.promises.proofs.ValueOrder.{value-transitive, value-connected, value-asymmetric, value-same}
 
 -- ---- the order of keys, and lists in which every later key is greater
 abbrev pub Before : List ℕ → List ℕ → Type 0
@@ -75,32 +76,36 @@ sorted-sides a r b s =
 
 -- ---- the greater of two values
 -- it stands before neither of them
-pub greater-bound : (v w : List ℕ) → (less (greater v w) v ≡ false) × (less (greater v w) w ≡ false)
+pub greater-bound : (v w : List ℕ) → (lessValue (greater v w) v ≡ false) × (lessValue (greater v w) w ≡ false)
 unfolding greater
-greater-bound v w = cases (less v w) (λ h. rw h (less-asymmetric v w h, less-same w w refl)) (λ h. rw h (less-same v v refl, h))
+greater-bound v w = cases (lessValue v w) (λ h. rw h (value-asymmetric v w h, value-same w w refl)) (λ h. rw h (value-same v v refl, h))
+
+pub lesser-gives : (v w : List ℕ) → lessValue v w ≡ true → (greater v w ≡ w) × (greater w v ≡ w)
+unfolding greater
+lesser-gives v w h = (rw h, rw (value-asymmetric v w h))
 
 pub greater-idempotent : (v : List ℕ) → greater v v ≡ v
 unfolding greater
-greater-idempotent v = rw (less-same v v refl)
+greater-idempotent v = rw (value-same v v refl)
 
 pub greater-commutes : (v w : List ℕ) → greater v w ≡ greater w v
 unfolding greater
 greater-commutes v w =
-    less-connected v w (λ h. rw (h, less-asymmetric v w h)) (λ e. rw e) (λ h. rw (h, less-asymmetric w v h))
+    value-connected v w (λ h. rw (h, value-asymmetric v w h)) (λ e. rw e) (λ h. rw (h, value-asymmetric w v h))
 
-not-less-transitive : (u v w : List ℕ) → less u v ≡ false → less v w ≡ false → less u w ≡ false
+not-less-transitive : (u v w : List ℕ) → lessValue u v ≡ false → lessValue v w ≡ false → lessValue u w ≡ false
 not-less-transitive u v w h k =
-    is-false (less u w) (λ l. less-connected u v
+    is-false (lessValue u w) (λ l. value-connected u v
     (λ p. false≢true (sym h ∙ p))
     (λ p. false≢true (sym k ∙ rw p at l))
-    (λ p. false≢true (sym k ∙ less-transitive v u w p l)))
+    (λ p. false≢true (sym k ∙ value-transitive v u w p l)))
 
 pub greater-associates : (u v w : List ℕ) → greater (greater u v) w ≡ greater u (greater v w)
 unfolding greater
 greater-associates u v w =
-    cases (less u v)
-    (λ p. cases (less v w) (λ q. rw (p, q, less-transitive u v w p q)) (λ q. rw (p, q, p)))
-    (λ p. cases (less v w) (λ q. rw (p, q)) (λ q. rw (p, q, p, not-less-transitive u v w p q)))
+    cases (lessValue u v)
+    (λ p. cases (lessValue v w) (λ q. rw (p, q, value-transitive u v w p q)) (λ q. rw (p, q, p)))
+    (λ p. cases (lessValue v w) (λ q. rw (p, q)) (λ q. rw (p, q, p, not-less-transitive u v w p q)))
 
 -- ---- find, case by case
 pub find-nil : (k : List ℕ) → find k [] ≡ none
@@ -424,7 +429,7 @@ module _ (r : Record) (key : LawfulKey r) (val : RightValue r) where
 
   pub proper-join : (m : List Record) → Proper m → Proper (join r m)
   unfolding join greater
-  proper-join = proper-insert greater (λ v w p q. cases (less v w) (λ e. rw e q) (λ e. rw e p))
+  proper-join = proper-insert greater (λ v w p q. cases (lessValue v w) (λ e. rw e q) (λ e. rw e p))
 
 pub proper-remove : (k : List ℕ) (m : List Record) → Proper m → Proper (remove k m)
 proper-remove k m p =

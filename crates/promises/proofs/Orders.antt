@@ -5,8 +5,7 @@ use mathlib.Core.Bool.{Bool, true, false, cond, _&&_, and-false, false≢true}
 use mathlib.Core.Logic.{_⊎_, inl, inr}
 use mathlib.Core.Option.{Option, none, some}
 use mathlib.Core.List.{List, [], _∷_, _++_}
-use native.Mathlib.Omega.{arith}
-use lib.ListN.{length, take, drop}
+use lib.ListN.{length}
 use lib.Dec.{eqb, leb}
 use borrow.Author.Tests.{eqb-false, leb-true, leb-false, lt-leb, le-leb, ne-eqb}
 use borrow.Table.Steps.{cases}
@@ -15,30 +14,31 @@ use Rattle.bytestring.proofs.Tools.{and-both}
 use Rattle.bytestring.specs.Bytes.{ByteString, equal}
 use Rattle.answer.specs.Answer.{numberOf, doneWith, said}
 use Rattle.answer.specs.declared.Refusal.{Refusal}
-use Rattle.answer.specs.declared.Refusal.the-variants.{TooManyRecords, UnlawfulKey, ValueLength, KeyAbsent, NoRoom, UntrueHead}
-use Rattle.key.specs.Key.{lawful, less}
+use Rattle.answer.specs.declared.Refusal.the-variants.{TooManyRecords, UnlawfulKey, WrongValue, KeyAbsent, NoRoom, UntrueHead}
+use Rattle.key.specs.Key.{lawful}
 use Rattle.key.proofs.Lawful.{slash-none}
 use Rattle.key.proofs.SlashLaws.{slash-stands}
-use Rattle.value.specs.Value.{isValue}
+use Rattle.value.specs.Value.{raw, dagCbor, isCodec, valueLength, valueCodec, valueDigest, isValue}
 use Rattle.tree.specs.Record.{Record, records, spelt}
 use Rattle.tree.specs.Table.{SpeltTree, treeOfSet, tableOf}
 use Rattle.tree.specs.Judge.{Test, due, fits, Verdict, refused, accepted, judge}
 use Rattle.tree.specs.Place.{places}
-use Rattle.tree.proofs.Laws.{LawfulKey, RightValue, fitting, fitting-fits, records-of-set, table-accepted, accepted-table, Stand, places-stand}
+use Rattle.tree.proofs.Laws.{LawfulKey, RightValue, fitting, fitting-fits, records-of-set, table-accepted, accepted-table, places-stand}
 use Rattle.head.specs.declared.Head.{Head}
 use Rattle.head.specs.Head.{headOf, sameHead}
 use Rattle.head.proofs.Laws.{same-head, head-same}
 use Rattle.promises.specs.Map.{find, isThere, put, join, remove, merge, greaterFound, nth}
 use Rattle.promises.specs.Pages.{pagesOf, openedPages, inPages}
-use Rattle.promises.specs.Outcome.{checkVerdict, checkOutcome, placeOf, answerPlace, lookupVerdict, lookupAnswer, Listed, unlisted, pastTheEnd, listed, listRecord, listVerdict, listOutcome, listAnswer, listKey, listValue, roomTest, sizes, settle, answerOf, outputOf}
+use Rattle.promises.specs.Outcome.{checkVerdict, checkOutcome, answerPlace, lookupVerdict, lookupAnswer, Listed, unlisted, pastTheEnd, listed, listRecord, listVerdict, listOutcome, listAnswer, listKey, listValue, roomTest, sizes, settle, answerOf, outputOf}
 use Rattle.promises.specs.Moved.{settleMoved, Plan, putPlan, joinPlan, removePlan, mergePlan, carryOut, onFirst, putOutcome, joinOutcome, removeOutcome, mergeOutcome, movedAnswer, movedOutput, movedHead}
 use Rattle.promises.specs.Counted.{settleCounted, countedAnswer, countedOutput}
 use Rattle.promises.specs.Difference.{differenceRecords, differenceVerdicts, differenceOutcome}
 use Rattle.promises.specs.Register.{RegisterOf}
 use Rattle.promises.specs.Reply.{Reply, recordReply, writingReply, movedReply, countedReply, differenceReply}
-use Rattle.promises.specs.Order.{AllZero, HeadIs, Refuses, Check, filled, Measured, ResultFinds, GivesRecord, LentHead}
+use Rattle.promises.specs.Order.{AllZero, HeadIs, Refuses, Check, filled, Measured, ResultFinds, GivesRecord, LentHead, NoValue}
 use Rattle.promises.specs.Promises.{SlashReplies, CheckReplies, LookupReplies, ListReplies, PutReplies, JoinReplies, RemoveReplies, MergeReplies, DifferenceReplies, DifferenceIsExact}
 use Rattle.promises.proofs.MapLaws.{sorted-rising, nth-past, find-merge, Proper, fits-proper, proper-put, proper-join, proper-remove, proper-merge}
+use Rattle.promises.proofs.Lookups.{place-found, place-absent}
 use Rattle.promises.proofs.Steps.{put-finds, join-finds, remove-finds}
 use Rattle.promises.proofs.OpenedLaws.{sorted-in-pages}
 use Rattle.promises.proofs.DifferenceLaws.{find-lacking, difference-proper, opened-is-enough}
@@ -58,13 +58,19 @@ pub lawful-passes : (b : Bool) → (b ≡ false → ⊥) → b ≡ true
 lawful-passes true h = refl
 lawful-passes false h = absurd (h refl)
 
-value-fails : (v : List ℕ) → (length v ≡ 32 → ⊥) → isValue v ≡ false
-unfolding isValue
-value-fails v h = ne-eqb (length v) 32 h
+value-fails : (v : List ℕ) → NoValue v → isValue v ≡ false
+unfolding isValue isCodec
+value-fails v (inl h) = rw (ne-eqb (length v) valueLength h)
+value-fails v (inr h) = rw (ne-eqb (valueCodec v) raw (h .0), ne-eqb (valueCodec v) dagCbor (h .1)) (and-false (eqb (length v) valueLength))
 
-value-passes : (v : List ℕ) → ((length v ≡ 32 → ⊥) → ⊥) → isValue v ≡ true
-unfolding isValue
-value-passes v h = cases (eqb (length v) 32) (λ e. e) (λ e. absurd (h (eqb-false (length v) 32 e)))
+value-passes : (v : List ℕ) → (NoValue v → ⊥) → isValue v ≡ true
+unfolding isValue isCodec
+value-passes v h =
+    cases (eqb (length v) valueLength)
+    (λ e. cases (eqb (valueCodec v) raw) (λ f. rw (e, f))
+    (λ f. cases (eqb (valueCodec v) dagCbor) (λ g. rw (e, f, g))
+    (λ g. absurd (h (inr (eqb-false (valueCodec v) raw f, eqb-false (valueCodec v) dagCbor g))))))
+    (λ e. absurd (h (inl (eqb-false (length v) valueLength e))))
 
 absent-fails : {A : Type 0} (o : Option A) → o ≡ none → isThere o ≡ false
 unfolding isThere
@@ -189,23 +195,23 @@ module _ (s : ByteString) (lent : Head) (k v : List ℕ) (room : ℕ) (set : Rec
   r = record { key = k; val = v }
 
   abbrev setPlan : List Record → Plan
-  setPlan m = record { asks = (UnlawfulKey, lawful k) ∷ (ValueLength, isValue v) ∷ []; result = set r m }
+  setPlan m = record { asks = (UnlawfulKey, lawful k) ∷ (WrongValue, isValue v) ∷ []; result = set r m }
 
   set-order : (finds : SpeltTree → List ℕ → Option (List ℕ))
       → (LawfulKey r → RightValue r → (m : List Record) → Proper m → Proper (set r m))
       → ((t : SpeltTree) (key : List ℕ) → find key (set r (records t)) ≡ finds t key)
       → LentHead (s .list) lent (planned (s .list) lent setPlan room) (λ t.
       Check (planned (s .list) lent setPlan room) 7 (lawful k ≡ false)
-      (Check (planned (s .list) lent setPlan room) 11 (length v ≡ 32 → ⊥)
+      (Check (planned (s .list) lent setPlan room) 11 (NoValue v)
       (ResultFinds (planned (s .list) lent setPlan room) room [] (finds t))))
   set-order finds proper found =
       let whole = planned (s .list) lent setPlan room in
       lent-head (s .list) lent setPlan room _ (λ t j e₀.
       let rs : List Record = set r (records t) in
       let reply = movedBy lent rs room in
-      check whole reply (moved-refuses lent rs room) UnlawfulKey (lawful k) ((ValueLength, isValue v) ∷ sizes rs room)
+      check whole reply (moved-refuses lent rs room) UnlawfulKey (lawful k) ((WrongValue, isValue v) ∷ sizes rs room)
       (λ h. h) (lawful-passes (lawful k)) e₀
-      (λ l e₁. check whole reply (moved-refuses lent rs room) ValueLength (isValue v) (sizes rs room) (value-fails v) (value-passes v) e₁
+      (λ l e₁. check whole reply (moved-refuses lent rs room) WrongValue (isValue v) (sizes rs room) (value-fails v) (value-passes v) e₁
       (λ w e₂. moved-last lent rs room whole (finds t) (proper (lawful-passes (lawful k) l) (value-passes v w) (records t) (accepted-proper s t j)) (found t) e₂)))
 
 pub put-replies : PutReplies
@@ -337,24 +343,6 @@ pub check-replies : CheckReplies
 unfolding checkOutcome checkVerdict
 check-replies s = record { refuses = λ r j. record { answer = rw j; outputs = tt; head = rw j }; accepts = λ t j. (rw j, rw j) }
 
--- the place of a value that is found
-place-found : (s k : List ℕ) (rs : List Record) (ps : List ℕ) → Stand s ps rs → (v : List ℕ) → find k rs ≡ some v
-    → (place : ℕ) × (placeOf k rs ps ≡ some place) × (take 32 (drop place s) ≡ v)
-unfolding find placeOf
-place-found s k [] ps h v = λ e. let z : _≡_ {A = ℕ} 0 1 = cc in absurd (omega arith)
-place-found s k (x ∷ rs) [] h v = λ e. absurd h
-place-found s k (x ∷ rs) (p ∷ ps) h v =
-    cases (less k (x .key)) (λ q. rw q (λ e. let z : _≡_ {A = ℕ} 0 1 = cc in absurd (omega arith)))
-    (λ q. cases (less (x .key) k) (λ f. rw (q, f) (place-found s k rs ps (h .1) v)) (λ f. rw (q, f) (λ e. (p, refl, h .0 ∙ cc))))
-
-place-absent : (k : List ℕ) (rs : List Record) (ps : List ℕ) → find k rs ≡ none → placeOf k rs ps ≡ none
-unfolding find placeOf
-place-absent k [] ps = λ e. refl
-place-absent k (x ∷ rs) [] = λ e. refl
-place-absent k (x ∷ rs) (p ∷ ps) =
-    cases (less k (x .key)) (λ q. rw q (λ e. refl))
-    (λ q. cases (less (x .key) k) (λ f. rw (q, f) (place-absent k rs ps)) (λ f. rw (q, f) (λ e. let z : _≡_ {A = ℕ} 0 1 = cc in absurd (omega arith))))
-
 pub lookup-replies : LookupReplies
 unfolding lookupAnswer lookupVerdict answerPlace
 lookup-replies s k = record {
@@ -367,7 +355,7 @@ lookup-replies s k = record {
           refuses = λ e. record { answer = rw (j, l, place-absent (k .list) (records t) (places 0 t) e); outputs = tt; head = tt };
           passes = λ _ v e.
               let p = place-found (s .list) (k .list) (records t) (places 0 t) (places-stand (s .list) (s .small) t j) v e in
-              (p .0, rw (j, l, p .1), p .2);
+              (p .0, rw (j, l, p .1) (ap (λ (w : List ℕ). doneWith (p .0 ∷ valueCodec w ∷ [])) (p .2)), ap (λ (w : List ℕ). valueDigest w) (p .2));
         };
   };
 }

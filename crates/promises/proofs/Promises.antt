@@ -11,15 +11,16 @@ use borrow.Author.Tests.{le-leb}
 use Rattle.limits.specs.Limits.{longest, most}
 use Rattle.bytestring.proofs.Tools.{All, all-split, and-both}
 use Rattle.bytestring.specs.Bytes.{Bytes, ByteString}
+use Rattle.bytestring.proofs.Equal.{equal-cases}
 use Rattle.answer.specs.Answer.{Said, refusedWith, said}
 use Rattle.answer.specs.Inner.{FirstFits}
 use Rattle.answer.specs.declared.Refusal.{Refusal}
-use Rattle.answer.specs.declared.Refusal.the-variants.{UnlawfulKey, ValueLength}
+use Rattle.answer.specs.declared.Refusal.the-variants.{UnlawfulKey, WrongValue}
 use Rattle.answer.specs.declared.Answer.the-variants.{Done}
 use Rattle.answer.proofs.Laws.{two-come-apart}
 use Rattle.key.specs.Key.{lawful}
 use Rattle.page.specs.Number.{numberBytes}
-use Rattle.value.specs.Value.{isValue}
+use Rattle.value.specs.Value.{valueCodec, isValue}
 use Rattle.page.specs.Page.{gapBytes, pageBytes}
 use Rattle.tree.specs.Tree.{topLayer, part, entriesOf, pageOf, build, treeOf}
 use Rattle.tree.specs.Record.{Record, records, spelt}
@@ -28,19 +29,21 @@ use Rattle.tree.specs.Judge.{due, fits, Verdict, refused, accepted, judge}
 use Rattle.tree.proofs.Laws.{due-none, none-due, LawfulKey, RightValue, fitting, fitting-fits, accepted-table, table-bytes, table-grows}
 use Rattle.head.specs.declared.Head.{Head}
 use Rattle.head.specs.Head.{headOf}
-use Rattle.promises.specs.Map.{put, merge}
+use Rattle.promises.specs.Map.{onlyInSecond, put, merge}
 use Rattle.promises.specs.Pages.{pagesOf, openedPages}
-use Rattle.promises.specs.Outcome.{sizes, checkVerdict, checkOutcome}
+use Rattle.promises.specs.Outcome.{sizes, checkVerdict, checkOutcome, lookupAnswer}
 use Rattle.promises.specs.Moved.{Moved, stopped, moved, settleMoved, Plan, putPlan, joinPlan, removePlan, mergePlan, carryOut, onFirst, putOutcome, joinOutcome, removeOutcome, mergeOutcome, movedAnswer, movedOutput, movedHead}
 use Rattle.promises.specs.Counted.{settleCounted, countedAnswer}
 use Rattle.promises.specs.Difference.{differenceRecords, differenceVerdicts, differenceOutcome}
 use Rattle.promises.specs.Plain.{Request, putOf, removeOf, joinOf, mergeOf, Call, planOf, roomOf, mapOutcome, nextSet, setAfter, mapAnswers, mapSet, outcomeOf, callAnswer, callOutput, callHead, nextHeld, heldAfter, libraryAnswers, held, carrying, emptyRegister, putsOf}
 use Rattle.promises.specs.Register.{RegisterOf}
-use Rattle.promises.specs.Promises.{ValuesAreBytes, ReadsWhatItWrites, ReadsNothingElse, AnswersAsTheMap, HoldsItsRegister, TrueAlong, HeadGoesAlong, AllDone, PutsReachEverySet, OneRegister, SameSetSameBytes, MergeCommutes, MergeAssociates, MergeIdempotent, DifferenceComesApart}
-use Rattle.promises.proofs.MapLaws.{Before, Sorted, sorted-rising, insert-nil, insert-later, fits-proper, fits-sorted}
+use Rattle.promises.specs.Promises.{GreaterDigestKept, GreaterCodecKept, CodecsTold, LookupComesApart, ValuesAreBytes, ReadsWhatItWrites, ReadsNothingElse, AnswersAsTheMap, HoldsItsRegister, TrueAlong, HeadGoesAlong, AllDone, PutsReachEverySet, OneRegister, SameSetSameBytes, MergeCommutes, MergeAssociates, MergeIdempotent, DifferenceComesApart}
+use Rattle.promises.proofs.ValueOrder.{lesser-digest, codec-first}
+use Rattle.promises.proofs.MapLaws.{Before, Sorted, sorted-rising, lesser-gives, insert-nil, insert-later, fits-proper, fits-sorted}
 use Rattle.promises.proofs.MergeLaws.{merge-commutes as sets-commute, merge-associates as sets-associate, merge-idempotent as set-idempotent}
 use Rattle.promises.proofs.Parts.{proper-part}
 use Rattle.promises.proofs.Steps.{sized, carried, put-fits, join-fits, remove-fits, merged-fits, merge-fits, first-accepted, second-accepted}
+use Rattle.promises.proofs.Lookups.{lookup-short}
 use Rattle.promises.proofs.Orders.{register-of}
 use Rattle.promises.proofs.TrueHeads.{true-passes, never-untrue}
 
@@ -241,7 +244,7 @@ put-done r m f g =
     let key = all-split LawfulKey m (r ∷ []) (q .keys) .1 .0 in
     let val = all-split RightValue m (r ∷ []) (q .values) .1 .0 in
     let size = le-leb (length (tableOf rs)) longest (q .size) in
-    let holds = none-due ((UnlawfulKey, lawful (r .key)) ∷ (ValueLength, isValue (r .val)) ∷ sizes rs longest)
+    let holds = none-due ((UnlawfulKey, lawful (r .key)) ∷ (WrongValue, isValue (r .val)) ∷ sizes rs longest)
     (key, (val, (le-leb (length rs) most (q .count), (and-both size size, tt)))) in
     same-request (putLongest r) (headOf m) (tableOf m) m (register-of m f) ∙ true-passes (putPlan (r .key) (r .val)) m longest ∙ rw (e, holds)
 
@@ -378,5 +381,19 @@ pub difference-short : (s u : List ℕ) (room : ℕ) → FirstFits (countedAnswe
 unfolding differenceOutcome
 difference-short s u room = verdicts-short (judge s) (judge u) room
 
+pub lookup-comes-apart : LookupComesApart
+lookup-comes-apart s k = two-come-apart (lookupAnswer (s .list) (k .list)) (lookup-short (s .list) (k .list) (s .small))
+
 pub difference-comes-apart : DifferenceComesApart
 difference-comes-apart s u room = two-come-apart (countedAnswer (differenceOutcome (s .list) (u .list) room)) (difference-short (s .list) (u .list) room)
+
+-- ---- values
+pub greater-digest-kept : GreaterDigestKept
+greater-digest-kept v w h = lesser-gives v w (lesser-digest v w h)
+
+pub greater-codec-kept : GreaterCodecKept
+greater-codec-kept v w h k e l = lesser-gives v w (codec-first v w h k e l)
+
+pub codecs-told : CodecsTold
+unfolding onlyInSecond
+codecs-told v w e f = equal-cases v w (λ q same. absurd (f (ap (λ (x : List ℕ). valueCodec x) same))) (λ q n. rw q)

@@ -37,7 +37,7 @@ space = 0x20
 abbrev pub lineFeed : ℕ
 lineFeed = 0x0A
 
--- A line for each record in key order: key, space, value.
+-- A line for each record in key order: key, space, value. A value is its codec's two digits and the 64 of its digest.
 unfoldable pub recordLines : List Record → List ℕ
 recordLines [] = []
 recordLines (r ∷ rs) = r .key ++ (space ∷ (hexadecimal (r .val) ++ (lineFeed ∷ recordLines rs)))

@@ -1,9 +1,10 @@
 -- The sorted map: a set of records, written as the list of its records in key order, and what the calls do to it.
 use Prim.Native.Nat.{ℕ, zero, suc}
-use mathlib.Core.Bool.{Bool, true, false, cond}
+use mathlib.Core.Bool.{Bool, true, false, cond, _&&_, _||_}
 use mathlib.Core.Option.{Option, none, some}
 use mathlib.Core.List.{List, [], _∷_}
 use Rattle.bytestring.specs.Bytes.{equal}
+use Rattle.value.specs.Value.{valueDigest}
 use Rattle.key.specs.Key.{less}
 use Rattle.tree.specs.Record.{Record}
 
@@ -31,9 +32,13 @@ insert choose r (x ∷ m) =
 unfoldable pub put : Record → List Record → List Record
 put r m = insert (λ old new. new) r m
 
--- The greater of two values, compared byte by byte from the first.
+-- The order of values: by their digests and, where these are equal, by the codecs, which stand first.
+unfoldable pub lessValue : List ℕ → List ℕ → Bool
+lessValue v w = less (valueDigest v) (valueDigest w) || (equal (valueDigest v) (valueDigest w) && less v w)
+
+-- The greater of two values.
 unfoldable pub greater : List ℕ → List ℕ → List ℕ
-greater v w = cond (less v w) w v
+greater v w = cond (lessValue v w) w v
 
 -- Join puts the record, but keeps the greater of two values.
 unfoldable pub join : Record → List Record → List Record

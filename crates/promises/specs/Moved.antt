@@ -6,7 +6,7 @@ use mathlib.Core.List.{List, [], _∷_, _++_}
 use lib.ListN.{length}
 use Rattle.bytestring.specs.Bytes.{zeros}
 use Rattle.answer.specs.declared.Refusal.{Refusal}
-use Rattle.answer.specs.declared.Refusal.the-variants.{UnlawfulKey, ValueLength, KeyAbsent, UntrueHead}
+use Rattle.answer.specs.declared.Refusal.the-variants.{UnlawfulKey, WrongValue, KeyAbsent, UntrueHead}
 use Rattle.answer.specs.declared.Answer.{Answer}
 use Rattle.answer.specs.declared.Answer.the-variants.{Done, Refused}
 use Rattle.key.specs.Key.{lawful}
@@ -37,11 +37,11 @@ pub record Plan : Type 0 where
 -- The key argument, then the value.
 unfoldable pub putPlan : List ℕ → List ℕ → List Record → Plan
 putPlan k v m =
-    record { asks = (UnlawfulKey, lawful k) ∷ (ValueLength, isValue v) ∷ []; result = put (record { key = k; val = v }) m }
+    record { asks = (UnlawfulKey, lawful k) ∷ (WrongValue, isValue v) ∷ []; result = put (record { key = k; val = v }) m }
 
 unfoldable pub joinPlan : List ℕ → List ℕ → List Record → Plan
 joinPlan k v m =
-    record { asks = (UnlawfulKey, lawful k) ∷ (ValueLength, isValue v) ∷ []; result = join (record { key = k; val = v }) m }
+    record { asks = (UnlawfulKey, lawful k) ∷ (WrongValue, isValue v) ∷ []; result = join (record { key = k; val = v }) m }
 
 -- The key argument, then absence.
 unfoldable pub removePlan : List ℕ → List Record → Plan

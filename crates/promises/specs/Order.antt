@@ -6,7 +6,7 @@ use mathlib.Core.Logic.{_⊎_}
 use mathlib.Core.Option.{Option, none, some}
 use mathlib.Core.List.{List, [], _∷_, _++_}
 use lib.ListN.{length}
-use Rattle.value.specs.Value.{valueLength, valueIn}
+use Rattle.value.specs.Value.{digestIn, raw, dagCbor, valueLength, valueCodec, valueDigest}
 use Rattle.limits.specs.Limits.{longest, most}
 use Rattle.bytestring.specs.Bytes.{zeros, equal}
 use Rattle.answer.specs.Answer.{numberOf, refusedWith, doneWith}
@@ -83,14 +83,14 @@ abbrev pub CheckOrder : List ℕ → Reply → Type 0
 CheckOrder s reply =
     Judged s reply (λ t. (reply .answer ≡ doneWith (0 ∷ [])) × HeadIs (reply .head) (λ _. headOf (records t)))
 
--- Lookup: the key argument, then absence. It answers the place where the value begins.
+-- Lookup: the key argument, then absence. It answers the place where the value's digest stands, and the value's codec.
 abbrev pub LookupOrder : List ℕ → List ℕ → Reply → Type 0
 LookupOrder s k reply =
     Judged s reply (λ t.
     Check reply 7 (lawful k ≡ false)
     (Check reply 12 (find k (records t) ≡ none)
     ((v : List ℕ) → find k (records t) ≡ some v
-    → (place : ℕ) × (reply .answer ≡ doneWith (place ∷ [])) × (valueIn s place ≡ v))))
+    → (place : ℕ) × (reply .answer ≡ doneWith (place ∷ valueCodec v ∷ [])) × (digestIn s place ≡ valueDigest v))))
 
 -- A single record: 13 where its key is longer than the output. Its key's length is answered, and key and value are written.
 abbrev pub GivesRecord : Reply → ℕ → Record → Type 0
@@ -155,12 +155,16 @@ RunOrder s first last room reply =
 abbrev pub LentHead : List ℕ → Head → Reply → (SpeltTree → Type 0) → Type 0
 LentHead s lent reply goesOn = Judged s reply (λ t. Check reply 17 (lent ≡ headOf (records t) → ⊥) (goesOn t))
 
+-- A value argument draws 11 where it has not 33 bytes, or a codec that is neither 55 nor 71.
+abbrev pub NoValue : List ℕ → Type 0
+NoValue v = (length v ≡ valueLength → ⊥) ⊎ ((valueCodec v ≡ raw → ⊥) × (valueCodec v ≡ dagCbor → ⊥))
+
 -- Put: the key argument, then the value. Afterwards the key finds the value, and every other key what it found before.
 abbrev pub PutOrder : List ℕ → Head → List ℕ → List ℕ → ℕ → Reply → Type 0
 PutOrder s lent k v room reply =
     LentHead s lent reply (λ t.
     Check reply 7 (lawful k ≡ false)
-    (Check reply 11 (length v ≡ valueLength → ⊥)
+    (Check reply 11 (NoValue v)
     (ResultFinds reply room [] (λ key. cond (equal key k) (some v) (find key (records t))))))
 
 -- Join: the same, but the key finds the greater of what it found before and the value.
@@ -168,7 +172,7 @@ abbrev pub JoinOrder : List ℕ → Head → List ℕ → List ℕ → ℕ → R
 JoinOrder s lent k v room reply =
     LentHead s lent reply (λ t.
     Check reply 7 (lawful k ≡ false)
-    (Check reply 11 (length v ≡ valueLength → ⊥)
+    (Check reply 11 (NoValue v)
     (ResultFinds reply room [] (λ key. cond (equal key k) (greaterFound (find key (records t)) (some v)) (find key (records t))))))
 
 -- Remove: the key argument, then absence. Afterwards the key finds nothing, and every other key what it found before.

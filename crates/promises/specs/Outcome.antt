@@ -11,8 +11,10 @@ use Rattle.answer.specs.declared.Refusal.{Refusal}
 use Rattle.answer.specs.declared.Refusal.the-variants.{TooManyRecords, UnlawfulKey, KeyAbsent, NoRoom}
 use Rattle.answer.specs.declared.Answer.{Answer}
 use Rattle.answer.specs.declared.Answer.the-variants.{Done, Refused}
+use Rattle.answer.specs.declared.AnswerOfTwo.{AnswerOfTwo}
+use Rattle.answer.specs.declared.AnswerOfTwo.the-variants.{Both, Refused as BothRefused}
 use Rattle.key.specs.Key.{lawful, less}
-use Rattle.value.specs.Value.{valueLength}
+use Rattle.value.specs.Value.{valueLength, codecIn}
 use Rattle.tree.specs.Record.{Record, records}
 use Rattle.tree.specs.Table.{tableOf}
 use Rattle.tree.specs.Judge.{Test, Verdict, refused, accepted, judge}
@@ -31,7 +33,7 @@ unfoldable pub checkOutcome : List ℕ → Headed
 checkOutcome s = checkVerdict (judge s)
 
 -- ---- lookup
--- The place of the value under a key, given the places of all values.
+-- The place of the digest of the value under a key, given the places of all of them.
 unfoldable pub placeOf : List ℕ → List Record → List ℕ → Option ℕ
 placeOf k [] ps = none
 placeOf k (x ∷ m) [] = none
@@ -39,17 +41,18 @@ placeOf k (x ∷ m) (p ∷ ps) =
     let later : Option ℕ = placeOf k m ps in
     cond (less k (x .key)) none (cond (less (x .key) k) later (some p))
 
-unfoldable pub answerPlace : Option ℕ → Answer
-answerPlace none = Refused KeyAbsent
-answerPlace (some p) = Done p
+-- The place is answered, and the value's codec beside it.
+unfoldable pub answerPlace : List ℕ → Option ℕ → AnswerOfTwo
+answerPlace s none = BothRefused KeyAbsent
+answerPlace s (some p) = Both p (codecIn s p)
 
 -- The key is judged after the register, and absence last.
-unfoldable pub lookupVerdict : Verdict → List ℕ → Answer
-lookupVerdict (refused r) k = Refused r
-lookupVerdict (accepted t) k = cond (lawful k) (answerPlace (placeOf k (records t) (places 0 t))) (Refused UnlawfulKey)
+unfoldable pub lookupVerdict : Verdict → List ℕ → List ℕ → AnswerOfTwo
+lookupVerdict (refused r) s k = BothRefused r
+lookupVerdict (accepted t) s k = cond (lawful k) (answerPlace s (placeOf k (records t) (places 0 t))) (BothRefused UnlawfulKey)
 
-unfoldable pub lookupAnswer : List ℕ → List ℕ → Answer
-lookupAnswer s k = lookupVerdict (judge s) k
+unfoldable pub lookupAnswer : List ℕ → List ℕ → AnswerOfTwo
+lookupAnswer s k = lookupVerdict (judge s) s k
 
 -- ---- list
 pub data Listed : Type 0 where

@@ -1,22 +1,25 @@
 -- What is promised of the calls. Each promise is a statement; its proof has the same name in proofs/Promises.antt.
-use Prim.Native.Nat.{ℕ}
+use Prim.Native.Nat.{ℕ, _<_}
 use mathlib.Core.Path.{_≡_}
 use mathlib.Core.Bool.{true, cond}
 use mathlib.Core.Logic.{_⊎_}
+use mathlib.Core.Option.{some}
 use mathlib.Core.List.{List, [], _∷_, _++_}
 use lib.ListN.{length}
 use Rattle.bytestring.specs.Bytes.{Bytes, ByteString}
 use Rattle.answer.specs.Answer.{Said, refusedWith, doneWith, said, encodedOfTwo, saidOfTwo, takenApartInTwo}
 use Rattle.fips180.specs.Hash.{sha256}
+use Rattle.value.specs.Value.{valueCodec, valueDigest, isValue}
+use Rattle.key.specs.Key.{less}
 use Rattle.tree.specs.Tree.{pages}
 use Rattle.tree.specs.Record.{Record, records}
 use Rattle.tree.specs.Table.{SpeltTree, bytesOfPage, tableOf}
 use Rattle.tree.specs.Judge.{accepted, judge, fits}
 use Rattle.head.specs.declared.Head.{Head}
 use Rattle.head.specs.Head.{headOf}
-use Rattle.promises.specs.Map.{find, onlyInSecond}
+use Rattle.promises.specs.Map.{find, greater, onlyInSecond}
 use Rattle.promises.specs.Pages.{pagesOf, known, openedPages, linkedPages}
-use Rattle.promises.specs.Outcome.{checkOutcome}
+use Rattle.promises.specs.Outcome.{checkOutcome, lookupAnswer}
 use Rattle.promises.specs.Moved.{moved, mergeOutcome}
 use Rattle.promises.specs.Counted.{countedAnswer}
 use Rattle.promises.specs.Difference.{differenceOutcome}
@@ -81,6 +84,27 @@ MergeReplies =
 abbrev pub DifferenceReplies : Type 0
 DifferenceReplies =
     (s u : ByteString) (room : ℕ) → DifferenceOrder (s .list) (u .list) room (differenceReply (s .list) (u .list) room)
+
+-- Join and merge keep the value with the greater digest and, at equal digests, the one with the greater codec, whichever comes first.
+abbrev pub Keeps : List ℕ → List ℕ → Type 0
+Keeps lesser kept = (greater lesser kept ≡ kept) × (greater kept lesser ≡ kept)
+
+abbrev pub GreaterDigestKept : Type 0
+GreaterDigestKept = (v w : List ℕ) → less (valueDigest v) (valueDigest w) ≡ true → Keeps v w
+
+abbrev pub GreaterCodecKept : Type 0
+GreaterCodecKept =
+    (v w : List ℕ) → isValue v ≡ true → isValue w ≡ true → valueDigest v ≡ valueDigest w → valueCodec v < valueCodec w → Keeps v w
+
+-- Two values with equal digests and unlike codecs are unequal: the difference lists the second.
+abbrev pub CodecsTold : Type 0
+CodecsTold =
+    (v w : List ℕ) → valueDigest v ≡ valueDigest w → (valueCodec v ≡ valueCodec w → ⊥) → onlyInSecond (some v) (some w) ≡ some w
+
+-- Lookup's answer as one number comes apart into its two values, or the number of its refusal.
+abbrev pub LookupComesApart : Type 0
+LookupComesApart =
+    (s k : ByteString) → takenApartInTwo (encodedOfTwo (lookupAnswer (s .list) (k .list))) ≡ saidOfTwo (lookupAnswer (s .list) (k .list))
 
 -- The difference's answer as one number comes apart into its two values, or the number of its refusal.
 abbrev pub DifferenceComesApart : Type 0

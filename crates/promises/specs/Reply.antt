@@ -43,7 +43,7 @@ checkReply s =
     }
 
 abbrev pub lookupReply : List ℕ → List ℕ → Reply
-lookupReply s k = record { answer = said (lookupAnswer s k); outputs = []; head = none }
+lookupReply s k = record { answer = saidOfTwo (lookupAnswer s k); outputs = []; head = none }
 
 abbrev pub recordReply : Listed → ℕ → Reply
 recordReply o room =

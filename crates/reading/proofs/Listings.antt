@@ -22,6 +22,7 @@ use Rattle.index.specs.Walk.{HoldsWords, blank}
 use Rattle.index.specs.Accepted.{AcceptedIndex}
 use Rattle.index.specs.Standing.{SlotAt}
 use Rattle.index.proofs.SlotLaws.{slots-length, slots-lawful, slot-record}
+use Rattle.value.specs.Value.{valueLength, valueIn}
 use Rattle.index.proofs.Standing.{accepted-slot-stands, value-within}
 use Rattle.promises.specs.Map.{nth}
 use Rattle.promises.proofs.MapLaws.{nth-there, nth-past}
@@ -47,7 +48,7 @@ ListSays outcome room r out value = (r ≡ listAnswer outcome) × ((out ≡ list
 
 -- a refusal
 pub record-refused : {o : Listed} {r : Refusal} (room : ℕ) (answer : Answer) (out value : List ℕ) → o ≡ unlisted r
-    → (answer ≡ Refused r) × ((out ≡ zeros room) × (value ≡ zeros 32)) → ListSays o room answer out value
+    → (answer ≡ Refused r) × ((out ≡ zeros room) × (value ≡ zeros valueLength)) → ListSays o room answer out value
 unfolding listAnswer listKey listValue
 record-refused room answer out value e says = (says .0 ∙ rw e, (says .1 .0 ∙ rw e, says .1 .1 ∙ rw e))
 
@@ -58,7 +59,7 @@ pub listed-refused : (s : List ℕ) (n room : ℕ) {r : Refusal} → judge s ≡
 unfolding listOutcome listVerdict
 listed-refused s n room e = rw e
 
-module _ (room : ℕ) {out value : List ℕ} (o : out ≡ zeros room) (v : value ≡ zeros 32) where
+module _ (room : ℕ) {out value : List ℕ} (o : out ≡ zeros room) (v : value ≡ zeros valueLength) where
   -- without a record both outputs are zero
   without-record : (outcome : Listed) → outcome ≡ pastTheEnd → ListSays outcome room (Done 0) out value
   unfolding listAnswer listKey listValue
@@ -103,7 +104,7 @@ module _ {s index : List ℕ} {count : ℕ} (a : AcceptedIndex s index count) (b
     pub size-small : found .size ≤ 256
     size-small = omega (arith, says .holds .size, key-short)
 
-    pub list-no-room : (room : ℕ) {out value : List ℕ} → out ≡ zeros room → value ≡ zeros 32 → room < found .size
+    pub list-no-room : (room : ℕ) {out value : List ℕ} → out ≡ zeros room → value ≡ zeros valueLength → room < found .size
         → ListSays (listOutcome s n room) room (Refused NoRoom) out value
     unfolding listOutcome listVerdict listRecord
     list-no-room room o v k =
@@ -116,7 +117,7 @@ module _ {s index : List ℕ} {count : ℕ} (a : AcceptedIndex s index count) (b
     -- the key at the front of the cleared output, and the value beside it
     pub list-record : (room : ℕ) (out cleared value : List ℕ) → length buffer ≡ 256 → found .size ≤ room → cleared ≡ zeros room
         → out ≡ take (found .size) buffer ++ drop (length (take (found .size) buffer)) cleared
-        → (found .value + 32 ≤ length s → value ≡ take 32 (drop (found .value) s))
+        → (found .value + 32 ≤ length s → value ≡ valueIn s (found .value))
         → ListSays (listOutcome s n room) room (Done (found .size)) out value
     unfolding listOutcome listVerdict listRecord listAnswer listKey listValue
     list-record room out cleared value e k z o v =

@@ -4,6 +4,7 @@ use crate::accepted::lower_bound;
 use crate::accepted::record_at;
 use crate::bytes::refuse_record;
 use answer::Answer;
+use answer::AnswerOfTwo;
 use answer::Refusal;
 use bytestring::clear;
 use judge::Register;
@@ -13,6 +14,7 @@ use row::search::Searched;
 use row::search::search;
 use value::VALUE;
 use value::Value;
+use value::codec_at;
 ghost use mathlib.Core.Path.{_≡_};
 ghost use lib.ListN.{length};
 ghost use Rattle.tree.specs.Judge.{judge};
@@ -23,33 +25,35 @@ ghost use Rattle.judge.specs.Verdict.{RoomFor};
 ghost use Rattle.reading.specs.Beside.{besideRecord, besideOutcome};
 ghost use Rattle.reading.specs.Positions.{acceptedRecords};
 
-// The place where the value under a key begins.
+// The place of the digest of the value under a key, and the value's codec.
 pub fn lookup_with_rows(
     register: &[u8],
     key: &[u8],
     index: &mut [u64],
     chains: &mut [u64],
-) -> Answer
+) -> AnswerOfTwo
     requires { ⌜ RoomFor (now register) 1 (length (now index)) × RoomFor (now register) 2 (length (now chains)) ⌝ }
     ensures { λ r. ⌜ r ≡ lookupAnswer (now (register .entry)) (now (key .entry)) ⌝ }
 {
     match judge(register, index, chains) {
         Register::Accepted(count, _) => lookup_accepted(register, index, count, key),
-        Register::Refused(refusal) => Answer::Refused(refusal),
+        Register::Refused(refusal) => AnswerOfTwo::Refused(refusal),
     }
 }
 
 // The same of a register that is accepted.
-fn lookup_accepted(register: &[u8], index: &[u64], count: usize, key: &[u8]) -> Answer
+fn lookup_accepted(register: &[u8], index: &[u64], count: usize, key: &[u8]) -> AnswerOfTwo
     requires { ⌜ AcceptedIndex (now register) (now index) count ⌝ }
     ensures { λ r. ⌜ r ≡ lookupAnswer (now (register .entry)) (now (key .entry)) ⌝ }
 {
     if let Answer::Refused(refusal) = slash(key) {
-        return Answer::Refused(refusal);
+        return AnswerOfTwo::Refused(refusal);
     }
     match search(register, index, count, key) {
-        Searched::At(_, place) => Answer::Done(place as u32),
-        Searched::Absent(_) => Answer::Refused(Refusal::KeyAbsent),
+        Searched::At(_, place) => {
+            AnswerOfTwo::Both(place as u32, codec_at(register, place) as u32)
+        }
+        Searched::Absent(_) => AnswerOfTwo::Refused(Refusal::KeyAbsent),
     }
 }
 

@@ -1,5 +1,6 @@
 // The calls on one register. A short register is judged with short rows, so that little is cleared.
 use answer::Answer;
+use answer::AnswerOfTwo;
 use checking::check_with_rows;
 use head::Head;
 use head::Headed;
@@ -35,8 +36,8 @@ pub fn check(register: &[u8]) -> Headed
     check_with_rows(register, &mut index, &mut chains)
 }
 
-// Public call: the place where the value under a key begins.
-pub fn lookup(register: &[u8], key: &[u8]) -> Answer
+// Public call: the place of the digest of the value under a key, and the value's codec.
+pub fn lookup(register: &[u8], key: &[u8]) -> AnswerOfTwo
     ensures { λ r. ⌜ r ≡ lookupAnswer (now (register .entry)) (now (key .entry)) ⌝ }
 {
     if register.len() <= SHORT {

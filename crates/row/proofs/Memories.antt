@@ -8,6 +8,7 @@ use lib.Seq.{take-at, take-take, take-append-le, drop-at, drop-append-le, drop-d
 use lib.Dec.{ltb, eqb}
 use borrow.Author.Tests.{ltb-true, ltb-false, eqb-true, eqb-false}
 use borrow.Table.Steps.{cases}
+use Rattle.value.specs.Value.{valueIn}
 use Rattle.word.specs.Word.{isFirst, registerIn, fromSecond, NoteWord}
 use Rattle.key.proofs.Laws.{lawful-length}
 use Rattle.page_reader.specs.Place.{Reads, pageStart}
@@ -179,6 +180,6 @@ module _ {s u keys notes : List ℕ} {word slot : ℕ} (stands : AtPlaces s u wo
           ∙ holds-whole (fetched .holds) (omega (arith, size-small)) ∙ ap (λ (r : Record). r .key) (sym (word-record stands));
       within = omega (arith, fetched .value, value-within (stands .there));
       val =
-          ap (λ (i : ℕ). take 32 (drop i (sourceOf s u word))) (fetched .value) ∙ stands .there .bytes
+          ap (valueIn (sourceOf s u word)) (fetched .value) ∙ stands .there .bytes
           ∙ ap (λ (r : Record). r .val) (sym (word-record stands));
     }

@@ -11,6 +11,7 @@ use borrow.Author.Tests.{lt-ltb, le-ltb, eq-eqb, ne-eqb}
 use borrow.Table.Steps.{cases}
 use Rattle.bytestring.proofs.Tools.{and-inv}
 use Rattle.bytestring.specs.Bytes.{Bytes}
+use Rattle.value.specs.Value.{valueIn}
 use Rattle.word.specs.Word.{pageIn, entryIn, layerIn, fromSecond, isFirst, secondWord}
 use Rattle.key.specs.Key.{lawful}
 use Rattle.page.specs.Page.{RawEntry, entry}
@@ -41,8 +42,8 @@ unfolding sourceOf
 source-same s w = cases (isFirst w) (λ q. rw q) (λ q. rw q)
 
 -- what is said of that register is said of its bytes
-pub value-in : (s u : List ℕ) (w : ℕ) (v : List ℕ) (at : ℕ) (r : List ℕ) → sourceOf s u w ≡ v → (at + 32 ≤ length v → r ≡ take 32 (drop at v))
-    → at + 32 ≤ length (sourceOf s u w) → r ≡ take 32 (drop at (sourceOf s u w))
+pub value-in : (s u : List ℕ) (w : ℕ) (v : List ℕ) (at : ℕ) (r : List ℕ) → sourceOf s u w ≡ v → (at + 32 ≤ length v → r ≡ valueIn v at)
+    → at + 32 ≤ length (sourceOf s u w) → r ≡ valueIn (sourceOf s u w) at
 value-in s u w v at r e f = rw e f
 
 pub source-short : (s u : List ℕ) (w n : ℕ) → length s < n → length u < n → length (sourceOf s u w) < n

@@ -4,7 +4,7 @@ use mathlib.Core.Path.{_≡_}
 use mathlib.Core.List.{List, []}
 use lib.ListN.{length, take, drop, getD}
 use Rattle.limits.specs.Limits.{longestKey}
-use Rattle.value.specs.Value.{valueLength, valueIn}
+use Rattle.value.specs.Value.{digestLength, valueIn}
 use Rattle.word.specs.Word.{pageIn, entryIn, sizeIn}
 use Rattle.page_reader.specs.Place.{Reads, pageStart}
 use Rattle.page_keys.specs.Buffer.{HoldsKey}
@@ -41,5 +41,5 @@ pub record Recalls (s u : List ℕ) (w : ℕ) (keys notes : List ℕ) (r : Recal
   pub room : r .from + r .size ≤ length keys
   pub short : r .size ≤ longestKey
   pub key : take (r .size) (drop (r .from) keys) ≡ recordOfWord s u w .key
-  pub within : r .value + valueLength ≤ length (sourceOf s u w)
+  pub within : r .value + digestLength ≤ length (sourceOf s u w)
   pub val : valueIn (sourceOf s u w) (r .value) ≡ recordOfWord s u w .val

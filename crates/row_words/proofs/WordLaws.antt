@@ -13,6 +13,7 @@ use borrow.Author.Count.{below-more, below-none}
 use Rattle.bytestring.proofs.Lending.{lent, back, onto}
 use Rattle.bytestring.specs.Bytes.{front}
 use Rattle.word.specs.Word.{fromSecond, secondWord, RecordWord}
+use Rattle.value.specs.Value.{isValue}
 use Rattle.key.specs.Key.{lawful, shared}
 use Rattle.key.specs.Layer.{layerOf}
 use Rattle.key.proofs.Laws.{lawful-length, shared-nil, shared-rebuilt}
@@ -23,10 +24,11 @@ use Rattle.page_reader.specs.Place.{Reads, pageStart}
 use Rattle.page_writer.specs.Front.{numberLength, entryLength, entryAfter, pageStartBytes}
 use Rattle.page.proofs.Numbers.{number-reads}
 use Rattle.page.proofs.Pages.{GoodEntry}
+use Rattle.page.proofs.Standing.{size-of-entry, value-there}
 use Rattle.page_writer.proofs.Sizes.{length-first, length-page-start, most-number}
 use Rattle.index.specs.Slot.{Slot}
 use Rattle.index.specs.Standing.{here, SlotAt}
-use Rattle.index.proofs.Standing.{reads-there, entry-there, size-of-entry, value-there}
+use Rattle.index.proofs.Standing.{reads-there, entry-there}
 use Rattle.row.specs.Row.{Stands}
 use Rattle.row.proofs.Rows.{leads-second, word-record}
 use Rattle.row_words.specs.RowWords.{BelowSecond, ToSecond, LeftOut, Inserted, Single}
@@ -141,7 +143,7 @@ part-length l from = rw (take-all (length l - from) (drop from l) (omega (arith,
 pub entry-short : (key : List ℕ) → length key ≤ 256 → entryLength [] key false ≤ 400
 entry-short key h = omega (arith, most-number (length key - shared [] key), most-number (shared [] key))
 
-module _ (key val page : List ℕ) (rule : lawful key ≡ true) (size : length val ≡ 32) (at : ℕ) (begins : at ≡ 3 + numberLength 1)
+module _ (key val page : List ℕ) (rule : lawful key ≡ true) (right : isValue val ≡ true) (at : ℕ) (begins : at ≡ 3 + numberLength 1)
     (out ys : List ℕ) (start : out ≡ front (pageStartBytes 1) page) (entry : ys ≡ front (entryBytes (entryOf key val)) (lent at out)) where
   abbrev bytes : List ℕ
   bytes = back at out ys
@@ -166,7 +168,7 @@ module _ (key val page : List ℕ) (rule : lawful key ≡ true) (size : length v
 
   good : GoodEntry (entryOf key val)
   unfolding entryAfter
-  good = rw (shared-nil key) (record { shares = omega arith; remainder = omega (arith, lawful-length key rule); after = tt; val = size })
+  good = rw (shared-nil key) (record { shares = omega arith; remainder = omega (arith, lawful-length key rule); after = tt; val = right })
 
   reads-start : Reads pageStart bytes 0 1 at
   unfolding exactly pageStartBytes
@@ -192,8 +194,8 @@ module _ (key val page : List ℕ) (rule : lawful key ≡ true) (size : length v
     reads = entry-there bytes at (entryOf key val) rest good at-entry;
     key = shared-rebuilt [] key;
     val = refl;
-    value = omega (arith, size-of-entry bytes at (entryOf key val) rest good at-entry);
-    bytes = value-there bytes at (entryOf key val) rest good at-entry;
+    value = omega (arith, size-of-entry (entryOf key val) (good .val));
+    bytes = value-there (entryOf key val) (good .val) bytes at rest at-entry;
   }
 
   module _ (layer w : ℕ) (el : layer ≡ layerOf key) (made : RecordWord w 0 at layer) where

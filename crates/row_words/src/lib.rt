@@ -10,6 +10,7 @@ ghost use mathlib.Core.Path.{_≡_};
 ghost use mathlib.Core.Bool.{true};
 ghost use Prim.Native.Nat.{_≤_, _<_};
 ghost use lib.ListN.{length};
+ghost use Rattle.value.specs.Value.{isValue};
 ghost use Rattle.key.specs.Key.{lawful};
 ghost use Rattle.row_words.specs.RowWords.{BelowSecond, ToSecond, LeftOut, Inserted, Single};
 
@@ -55,7 +56,7 @@ pub fn insert_word(row: &mut [u64], n: usize, at: usize, word: u64)
 
 // One record alone, as the second register: the start of a page and the record's entry, and the word that leads to it.
 pub fn single(key: &[u8], value: Value, page: &mut [u8]) -> u64
-    requires { ⌜ (lawful (now key) ≡ true) × (length (now page) ≡ 512) ⌝ }
+    requires { ⌜ (lawful (now key) ≡ true) × (isValue value ≡ true) × (length (now page) ≡ 512) ⌝ }
     ensures { λ r. ⌜ Single (now (key .entry)) value (now (page .exit)) r ⌝ }
 {
     let layer = layer_of(key) as usize;

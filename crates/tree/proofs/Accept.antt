@@ -7,7 +7,7 @@ use mathlib.Core.List.{List, [], _∷_, _++_, append-nil, map}
 use native.Mathlib.Omega.{arith}
 use lib.ListN.{length, length-append, length-drop}
 use lib.Dec.{eqb, leb}
-use borrow.Author.Tests.{leb-true, le-leb, eqb-true, eq-eqb}
+use borrow.Author.Tests.{leb-true, le-leb}
 use Rattle.limits.specs.Limits.{longest, deepest, most}
 use Rattle.bytestring.proofs.Equal.{equal-true, equal-refl}
 use Rattle.bytestring.proofs.Tools.{cond-inv, and-inv, and-both, All, all-append, all-split}
@@ -95,7 +95,7 @@ mutual
 -- ---- a tree of records at their layers has good fields
 pub record GoodRecord (r : Record) : Type 0 where
   pub key : length (r .key) ≤ 256
-  pub val : length (r .val) ≡ 32
+  pub val : isValue (r .val) ≡ true
 
 -- no page has more entries than the tree has items
 count-entries : (before : List ℕ) (es : Entries Record (List ℕ)) → length (rawEntries (speltFrom before es)) ≤ length (itemsFrom es)
@@ -156,10 +156,8 @@ mutual
 
 -- ---- the records and the tree of a set that fits
 pub good-records : (rs : List Record) → All LawfulKey rs → All RightValue rs → All GoodRecord rs
-unfolding isValue
 good-records [] h k = tt
-good-records (r ∷ rs) h k =
-    (record { key = lawful-length (r .key) (h .0); val = eqb-true (length (r .val)) 32 (k .0) }, good-records rs (h .1) (k .1))
+good-records (r ∷ rs) h k = (record { key = lawful-length (r .key) (h .0); val = k .0 }, good-records rs (h .1) (k .1))
 
 pub records-of-set : (rs : List Record) → records (spelt (treeOfSet rs)) ≡ rs
 unfolding treeOfSet
@@ -210,7 +208,7 @@ module _ (rs : List Record) (f : Fitting rs) where
 
 -- ---- what is accepted is the table of a set that fits
 mutual
-  unfolding items keyed rawPage rawEntries isValue
+  unfolding items keyed rawPage rawEntries
 
   values-good : (t : SpeltTree) (d : ℕ) → Good d t → All RightValue (records t)
   values-good (page g es) zero h = absurd h
@@ -226,7 +224,7 @@ mutual
   values-from end d before h k = tt
   values-from (entry e g es) d before h k =
       let key : List ℕ = recordOf before e .key in (
-        eq-eqb (length (e .val)) 32 (h .0 .val),
+        h .0 .val,
         all-append RightValue (itemsUnder (keyedUnder g)) (itemsFrom (keyedFrom key es)) (values-under g d (k .0)) (values-from es d key (h .1) (k .1)),
       )
 

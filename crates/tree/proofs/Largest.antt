@@ -8,7 +8,9 @@ use borrow.Table.Steps.{cases}
 use Rattle.bytestring.proofs.Tools.{All}
 use Rattle.fips180.proofs.Laws.{length-sha256}
 use Rattle.key.specs.Key.{shared}
-use Rattle.page.specs.Page.{linkBytes, gapBytes, entryBytes}
+use Rattle.value.specs.Value.{valueDigest}
+use Rattle.value.proofs.Laws.{value-digest}
+use Rattle.page.specs.Page.{linkBytes, gapBytes, valueBytes, entryBytes}
 use Rattle.tree.specs.Tree.{Page, Gap, empty, Placed, topLayer, part, entriesOf, pageOf, gapOf, build, treeOf}
 use Rattle.tree.specs.Record.{Record, spelt, speltUnder, placed}
 use Rattle.tree.specs.Table.{linkOf, rawEntries, table, digestOf, treeOfSet, tableOf}
@@ -16,10 +18,11 @@ use Rattle.tree.proofs.Tests.{LawfulKey, RightValue}
 use Rattle.tree.proofs.Accept.{GoodRecord, good-records, top-bounded}
 use Rattle.tree.proofs.Growing.{size, sizeUnder, sizeFrom, size-page, number-size}
 
--- What a row's records add at most to a tree at layer n: each an entry of 65 bytes, its key and its value, and 49 bytes of page at each layer below.
+-- What a row's records add at most to a tree at layer n: each an entry of 65 bytes, its key and its value's digest, and 49 bytes of
+-- page at each layer below.
 abbrev cost : ℕ → List (Placed Record) → ℕ
 cost n [] = 0
-cost n (x ∷ xs) = 49 * n + 65 + length (x .item .key) + length (x .item .val) + cost n xs
+cost n (x ∷ xs) = 49 * n + 65 + length (x .item .key) + length (valueDigest (x .item .val)) + cost n xs
 
 -- A number for each row: at most what it may be of the empty row, and what the row's records add.
 abbrev AtMost : ℕ → ℕ → (List (Placed Record) → ℕ) → Type 0
@@ -33,8 +36,8 @@ cost-grows n (x ∷ xs) = omega (arith, cost-grows n xs)
 -- how much of the key is left out does not matter
 entry-at-most : (r : Record) (n : ℕ) (g : Gap Record (List ℕ))
     → length (entryBytes (record { shares = n; remainder = drop n (r .key); after = linkOf (speltUnder g); val = r .val }))
-    ≤ 24 + length (r .key) + length (r .val) + length (gapBytes (linkOf (speltUnder g)))
-unfolding entryBytes linkBytes
+    ≤ 24 + length (r .key) + length (valueDigest (r .val)) + length (gapBytes (linkOf (speltUnder g)))
+unfolding entryBytes valueBytes
 entry-at-most r n g = simp (length-append, length-drop, number-size) (omega arith)
 
 module _ (n : ℕ) (gap : List (Placed Record) → Gap Record (List ℕ)) (most : AtMost 41 n (λ ls. sizeUnder (gap ls))) where
@@ -67,10 +70,10 @@ build-at-most zero = page-at-most zero (λ _. empty) (λ ls. omega arith)
 build-at-most (suc n) = page-at-most (suc n) (gapOf digestOf (build digestOf n)) (gap-at-most n (build digestOf n) (build-at-most n))
 
 -- ---- the table of a set
--- 6,625 bytes for each record: 49 at each of 128 layers, 65, a key of 256 and a value of 32
+-- 6,625 bytes for each record: 49 at each of 128 layers, 65, a key of 256 and a digest of 32
 cost-at-most : (n : ℕ) (rs : List Record) → n ≤ 128 → All GoodRecord rs → cost n (map placed rs) ≤ 6625 * length rs
 cost-at-most n [] h good = omega arith
-cost-at-most n (r ∷ rs) h good = omega (arith, good .0 .key, good .0 .val, cost-at-most n rs h (good .1))
+cost-at-most n (r ∷ rs) h good = omega (arith, good .0 .key, value-digest (r .val) (good .0 .val), cost-at-most n rs h (good .1))
 
 pub table-at-most : (rs : List Record) → All LawfulKey rs → All RightValue rs → length (tableOf rs) ≤ 49 + 6625 * length rs
 unfolding treeOfSet tableOf treeOf

@@ -30,4 +30,4 @@ pub use Rattle.tree.proofs.Growing.{table-grows}
 -- and at most so long
 pub use Rattle.tree.proofs.Largest.{table-at-most}
 -- the places of values are where they stand
-pub use Rattle.tree.proofs.PlaceLaws.{Stand, stand-length, places-stand, At, at-left, at-right, at-both, value-at}
+pub use Rattle.tree.proofs.PlaceLaws.{Stand, stand-length, places-stand, At, at-left, at-right, at-both}

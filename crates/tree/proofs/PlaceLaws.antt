@@ -1,17 +1,19 @@
 -- The places of a register's values are where the values stand, one place for each record.
-use Prim.Native.Nat.{ℕ, zero, suc, _+_, _-_}
+use Prim.Native.Nat.{ℕ, zero, suc, _+_}
 use mathlib.Core.Path.{_≡_, refl, sym, ap, _∙_}
 use mathlib.Core.List.{List, [], _∷_, _++_, append-assoc, append-nil}
 use native.Mathlib.Omega.{arith}
-use lib.ListN.{length, take, drop, length-append}
-use lib.Seq.{take-at, drop-append-seam, drop-drop}
+use lib.ListN.{length, drop}
+use lib.Seq.{drop-append-seam, drop-drop}
 use Rattle.limits.specs.Limits.{deepest}
 use Rattle.bytestring.proofs.Tools.{All}
 use Rattle.bytestring.specs.Bytes.{Bytes}
 use Rattle.page.specs.Reading.{concat}
-use Rattle.page.specs.Number.{plainNumber, byteString, array, numberBytes}
-use Rattle.page.specs.Page.{linkHead, linkBytes, gapBytes, RawEntry, entryBytes, pageBytes}
+use Rattle.value.specs.Value.{valueIn}
+use Rattle.page.specs.Number.{array, numberBytes}
+use Rattle.page.specs.Page.{gapBytes, RawEntry, entryBytes, pageBytes}
 use Rattle.page.proofs.Pages.{GoodEntry}
+use Rattle.page.proofs.Standing.{value-there}
 use Rattle.tree.specs.Tree.{page, Gap, empty, under, Entries, end, entry, items, itemsUnder, itemsFrom}
 use Rattle.tree.specs.Record.{Record, Spelt, recordOf, keyed, keyedUnder, keyedFrom, records}
 use Rattle.tree.specs.Table.{SpeltTree, linkOf, rawEntries, rawPage, bytesOfPage, table, tableUnder, tableFrom, tableOf}
@@ -20,30 +22,18 @@ use Rattle.tree.specs.Place.{lengthOfEntry, firstEntry, places, placesUn
 use Rattle.tree.proofs.Tables.{AllUnder, AllFrom, Good}
 use Rattle.tree.proofs.Accept.{accepted-table}
 
--- As many places as records, and at each of them the 32 bytes of its record's value.
+-- As many places as records, and at each of them its record's value.
 abbrev pub Stand : List ℕ → List ℕ → List Record → Type 0
 Stand s [] [] = Unit {0}
 Stand s [] (r ∷ rs) = ⊥
 Stand s (p ∷ ps) [] = ⊥
-Stand s (p ∷ ps) (r ∷ rs) = (take 32 (drop p s) ≡ r .val) × Stand s ps rs
+Stand s (p ∷ ps) (r ∷ rs) = (valueIn s p ≡ r .val) × Stand s ps rs
 
 pub stand-length : (s ps : List ℕ) (rs : List Record) → Stand s ps rs → length ps ≡ length rs
 stand-length s [] [] h = refl
 stand-length s [] (r ∷ rs) h = absurd h
 stand-length s (p ∷ ps) [] h = absurd h
 stand-length s (p ∷ ps) (r ∷ rs) h = ap suc (stand-length s ps rs (h .1))
-
--- ---- an entry ends with its value
-abbrev front : RawEntry → List ℕ
-front e =
-    (0xA4 ∷ 0x61 ∷ 0x6B ∷ []) ++ (numberBytes byteString (length (e .remainder)) ++ (e .remainder ++ (
-    (0x61 ∷ 0x70 ∷ []) ++ (numberBytes plainNumber (e .shares) ++ (
-    (0x61 ∷ 0x74 ∷ []) ++ (gapBytes (e .after) ++ (
-    (0x61 ∷ 0x76 ∷ []) ++ linkHead)))))))
-
-entry-front : (e : RawEntry) → entryBytes e ≡ front e ++ e .val
-unfolding entryBytes linkBytes
-entry-front e = simp append-assoc
 
 module _ (s : List ℕ) where
   stand-append : (ps qs : List ℕ) (rs us : List Record) → Stand s ps rs → Stand s qs us → Stand s (ps ++ qs) (rs ++ us)
@@ -66,13 +56,6 @@ module _ (s : List ℕ) where
   at-both at l m k h =
       let e : at + (length l + length m) ≡ at + length l + length m = omega arith in
       rw e (at-right (at + length l) m k (at-right at l (m ++ k) h))
-
-  pub value-at : (at : ℕ) (e : RawEntry) → GoodEntry e → At at (entryBytes e) → take 32 (drop (at + length (entryBytes e) - 32) s) ≡ e .val
-  value-at at e g h =
-      let n : at + length (entryBytes e) - 32 ≡ at + length (front e) =
-      rw (entry-front e) (omega (arith, length-append (front e) (e .val), g .val)) in
-      let k = at-right at (front e) (e .val) (rw (entry-front e) at h) in
-      rw (n, k .1) (take-at (e .val) (k .0) 32 (g .val))
 
   -- ---- the values of a tree whose table stands at a place
   mutual
@@ -104,8 +87,9 @@ module _ (s : List ℕ) where
     stand-from (entry e g es) d at below before f k h i =
         let raw : RawEntry = record { shares = e .shares; remainder = e .remainder; after = linkOf g; val = e .val } in
         let own : List ℕ = entryBytes raw in
-        let key : List ℕ = recordOf before e .key in (
-          value-at at raw (f .0) (at-left at own (concat entryBytes (rawEntries es)) h),
+        let key : List ℕ = recordOf before e .key in
+        let here = at-left at own (concat entryBytes (rawEntries es)) h in (
+          value-there raw (f .0 .val) s at (here .0) (here .1),
           stand-append (placesUnder below g) (placesFrom (at + lengthOfEntry e g) (below + length (tableUnder g)) es)
               (itemsUnder (keyedUnder g)) (itemsFrom (keyedFrom key es))
               (stand-under g d below (k .0) (at-left below (tableUnder g) (tableFrom es) i))

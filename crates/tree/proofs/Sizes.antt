@@ -2,6 +2,7 @@
 -- its value's link.
 use Prim.Native.Nat.{ℕ, zero, suc, _+_, _*_, _≤_}
 use mathlib.Core.Path.{_≡_, ap}
+use mathlib.Core.Bool.{true}
 use mathlib.Core.Option.{Option, none, some}
 use mathlib.Core.List.{List, [], _++_}
 use native.Mathlib.Omega.{arith}
@@ -12,7 +13,9 @@ use Rattle.bytestring.proofs.Tools.{All}
 use Rattle.bytestring.specs.Bytes.{Bytes}
 use Rattle.page.specs.Reading.{read, concat}
 use Rattle.page.specs.Number.{numberBytes, byteString, plainNumber}
-use Rattle.page.specs.Page.{linkHead, linkBytes, gapBytes, RawEntry, entryBytes, RawPage, pageBytes}
+use Rattle.value.specs.Value.{isValue}
+use Rattle.value.proofs.Laws.{value-digest}
+use Rattle.page.specs.Page.{linkBytes, gapBytes, valueBytes, RawEntry, entryBytes, RawPage, pageBytes}
 use Rattle.page.proofs.Pages.{GoodEntry}
 use Rattle.tree.specs.Tree.{page, Gap, empty, under, Entries, end, entry, items, itemsUnder, itemsFrom}
 use Rattle.tree.specs.Record.{Spelt, recordOf, keyed, keyedUnder, keyedFrom, records}
@@ -30,12 +33,12 @@ number-length kind n =
 gap-length : (g : Option (List ℕ)) → 1 ≤ length (gapBytes g)
 unfolding gapBytes linkBytes
 gap-length none = omega arith
-gap-length (some digest) = omega (arith, length-append linkHead digest)
+gap-length (some digest) = omega arith
 
-entry-length : (e : RawEntry) → length (e .val) ≡ 32 → 53 ≤ length (entryBytes e)
-unfolding entryBytes linkBytes
+entry-length : (e : RawEntry) → isValue (e .val) ≡ true → 53 ≤ length (entryBytes e)
+unfolding entryBytes valueBytes
 entry-length e h =
-    simp length-append (omega (arith, number-length byteString (length (e .remainder)), number-length plainNumber (e .shares), gap-length (e .after)))
+    simp length-append (omega (arith, number-length byteString (length (e .remainder)), number-length plainNumber (e .shares), gap-length (e .after), value-digest (e .val) h))
 
 entries-within : (p : RawPage) → length (concat entryBytes (p .entries)) ≤ length (pageBytes p)
 unfolding pageBytes

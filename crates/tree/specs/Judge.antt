@@ -124,7 +124,7 @@ judgeRead (read t rest) = settled (due (tests t rest)) t
 unfoldable pub judge : List ℕ → Verdict
 judge s = cond (leb (length s) longest) (judgeRead (readTree deepest s)) (refused TooLong)
 
--- Each value is the 32 bytes of a digest.
+-- Each value is a codec, 55 or 71, and the 32 bytes of a digest.
 unfoldable pub allValues : List Record → Bool
 allValues [] = true
 allValues (r ∷ rs) = isValue (r .val) && allValues rs

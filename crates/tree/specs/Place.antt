@@ -1,15 +1,15 @@
--- Where the values of a register stand in its bytes, counted from 0, in tree order.
+-- Where the values of a register stand in its bytes, counted from 0, in tree order. A value's place is that of its digest.
 use Prim.Native.Nat.{ℕ, _+_, _-_}
 use mathlib.Core.List.{List, [], _∷_, _++_}
 use lib.ListN.{length}
-use Rattle.value.specs.Value.{valueLength}
+use Rattle.value.specs.Value.{digestLength}
 use Rattle.page.specs.Page.{entryBytes}
 use Rattle.tree.specs.Tree.{page, Gap, empty, under, Entries, end, entry}
 use Rattle.tree.specs.Record.{Spelt}
 use Rattle.tree.specs.Table.{SpeltTree, linkOf, rawEntries, bytesOfPage, tableUnder}
 use Rattle.tree.specs.OnePage.{entriesStart}
 
--- An entry's bytes end with its value's.
+-- An entry's bytes end with its value's digest.
 abbrev pub lengthOfEntry : Spelt → Gap Spelt (List ℕ) → ℕ
 lengthOfEntry e g = length (entryBytes (record { shares = e .shares; remainder = e .remainder; after = linkOf g; val = e .val }))
 
@@ -31,5 +31,5 @@ unfoldable mutual
   pub placesFrom : ℕ → ℕ → Entries Spelt (List ℕ) → List ℕ
   placesFrom at below end = []
   placesFrom at below (entry e g es) =
-      (at + lengthOfEntry e g - valueLength)
+      (at + lengthOfEntry e g - digestLength)
       ∷ (placesUnder below g ++ placesFrom (at + lengthOfEntry e g) (below + length (tableUnder g)) es)

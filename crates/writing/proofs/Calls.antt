@@ -2,7 +2,7 @@
 use Prim.Native.Nat.{ℕ, _+_, _-_, _≤_, _<_}
 use mathlib.Core.Path.{_≡_, refl, sym, ap, subst, _∙_}
 use mathlib.Core.Bool.{Bool, true, false}
-use mathlib.Core.Option.{none}
+use mathlib.Core.Option.{none, Option·none-ne-some}
 use mathlib.Core.List.{List, [], _∷_, _++_, map, map-append}
 use native.Mathlib.Numerals.{add-one}
 use native.Mathlib.Omega.{arith}
@@ -12,6 +12,8 @@ use Rattle.limits.specs.Limits.{most}
 use Rattle.bytestring.proofs.Tools.{All, all-append, cond-inv, part-taken}
 use Rattle.answer.specs.declared.Refusal.the-variants.{TooManyRecords, KeyAbsent}
 use Rattle.answer.specs.declared.Answer.{Answer}
+use Rattle.value.specs.Value.{valueLength, isValue}
+use Rattle.value.proofs.Laws.{value-length}
 use Rattle.key.specs.Key.{lawful, less}
 use Rattle.tree.specs.Record.{Record, records}
 use Rattle.tree.specs.Table.{SpeltTree, tableOf}
@@ -39,7 +41,7 @@ use Rattle.row.specs.declared.search.Searched.the-variants.{At, Absent}
 use Rattle.choice.proofs.Weaving.{remove-at, find-at}
 use Rattle.choice.proofs.Choosing.{all-first, first-at, all-drop, records-slice, records-front}
 use Rattle.reading.proofs.Verdicts.{Accepting, t, sorted, short, row-first, records-first, accepted-few}
-use Rattle.reading.proofs.Answering.{none≢some, searched, position-is, position-within}
+use Rattle.reading.proofs.Answering.{searched, position-is, position-within}
 use Rattle.checking.specs.Lent.{TrueOf}
 use Rattle.writing.proofs.Writing.{Says, written-says, tested-value, test-held, run-written}
 use Rattle.writing.proofs.Moving.{Gives, moved-many, moved-gives, set-written, remove-absent, remove-written}
@@ -85,21 +87,26 @@ not-found k (r ∷ rs) [] l e = absurd (omega arith)
 not-found k (r ∷ rs) (p ∷ ps) l e =
     let shorter : length ps ≡ length rs = omega arith in
     cond-inv (less k (r .key)) (λ h _. rw h)
-    (λ h f. cond-inv (less (r .key) k) (λ g q. rw (h, g) (not-found k rs ps shorter q)) (λ g q. absurd (none≢some (sym q))) f) e
+    (λ h f. cond-inv (less (r .key) k) (λ g q. rw (h, g) (not-found k rs ps shorter q)) (λ g q. absurd (Option·none-ne-some p (sym q))) f) e
+
+-- a value argument that passes its tests is copied whole
+module _ (k value v : List ℕ) (q : due (recordTests k value) ≡ none) (copied : length value ≡ valueLength → v ≡ value) where
+  same-value : v ≡ value
+  same-value = copied (value-length value (tested-value k value q))
+
+  pub copied-value : isValue v ≡ true
+  copied-value = rw same-value (tested-value k value q)
 
 module _ {s index : List ℕ} {count : ℕ} (a : Accepting s index count) (h : Head) (own : TrueOf s h) where
   -- ---- put and join
-  module _ (g : Bool) (k value v : List ℕ) (q : due (recordTests k value) ≡ none) (copied : 0 + 32 ≤ length value → v ≡ take 32 (drop 0 value))
+  module _ (g : Bool) (k value v : List ℕ) (q : due (recordTests k value) ≡ none) (copied : length value ≡ valueLength → v ≡ value)
       (page : List ℕ) (w : ℕ) (one : Single k v page w) where
-    same-value : v ≡ value
-    same-value = let long = tested-value k value q in copied (omega arith) ∙ take-all 32 value (omega arith)
-
     pub set-done : (out : ℕ) → movedTo (wovenOf g s page index count (w ∷ []) 1) out ≡ setOutcome g s h k value out
     unfolding wovenOf recordsOf
     set-done out =
         ap (λ (rs : List Record). movedTo rs out)
         (ap (λ (rs : List Record). weave (choiceOf g) rs (recordOfWord s page w ∷ [])) (records-first a page)
-        ∙ rw (one .spells s, same-value))
+        ∙ rw (one .spells s, same-value k value v q copied))
         ∙ set-written g s h k value out (t a) (a .given .judged) own q
 
   -- ---- remove

@@ -10,6 +10,7 @@ use lib.ListN.{length, take, drop, getD, set, length-append, length-drop, length
 use lib.Seq.{length-take-le, take-take, take-set-lt, set-split, getD-drop}
 use Rattle.limits.specs.Limits.{most}
 use Rattle.bytestring.proofs.Tools.{All, all-append}
+use Rattle.value.specs.Value.{valueIn}
 use Rattle.key.specs.Key.{less}
 use Rattle.tree.specs.Record.{Record}
 use Rattle.row.specs.Row.{sourceOf, nothing, recordOfWord, Stands, Row, recordsOf}
@@ -97,8 +98,8 @@ module _ {s u row : List ℕ} {n : ℕ} (r : Row s u row n) where
       same-key = ap (λ (x : Record). x .key) (sym old-record) ∙ there
 
       -- the value chosen is that of the word answered
-      module _ (place other word : ℕ) (first : take 32 (drop place (sourceOf s u (getD row at 0))) ≡ recordOfWord s u (getD row at 0) .val)
-          (second : take 32 (drop other (sourceOf s u w)) ≡ recordOfWord s u w .val)
+      module _ (place other word : ℕ) (first : valueIn (sourceOf s u (getD row at 0)) place ≡ recordOfWord s u (getD row at 0) .val)
+          (second : valueIn (sourceOf s u w) other ≡ recordOfWord s u w .val)
           (chosen : word ≡ wordOf g (valueAt s u (getD row at 0) place) (valueAt s u w other) (getD row at 0) w) where
         present-woven : take at (recordsOf s u row n) ++ (recordOfWord s u word ∷ drop (at + 1) (recordsOf s u row n)) ≡ wovenOf g s u row n (w ∷ []) 1
         unfolding wovenOf recordsOf

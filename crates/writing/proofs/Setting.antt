@@ -5,13 +5,14 @@ use mathlib.Core.Bool.{Bool}
 use mathlib.Core.Option.{some}
 use mathlib.Core.List.{List, [], _∷_}
 use native.Mathlib.Omega.{arith}
-use lib.ListN.{length, take, drop, getD, set}
+use lib.ListN.{length, getD, set}
 use lib.Dec.{ltb}
 use borrow.Author.Tests.{ltb-true, ltb-false}
 use borrow.Table.Steps.{cases}
 use Rattle.word.specs.Word.{fromSecond}
 use Rattle.limits.specs.Limits.{most}
 use Rattle.bytestring.specs.Bytes.{Bytes}
+use Rattle.value.specs.Value.{valueIn}
 use Rattle.key.specs.Key.{less}
 use Rattle.tree.specs.Record.{Record, records}
 use Rattle.tree.specs.Place.{places}
@@ -32,7 +33,8 @@ use Rattle.choice.proofs.Weaving.{find-at}
 use Rattle.writing.proofs.Placing.{inserted-woven, absent-length, replaced-woven}
 use Rattle.writing.specs.Setting.{RoomForMore, ToSet}
 use Rattle.reading.proofs.Verdicts.{accepted-long, Accepting, row-first, records-first, sorted}
-use Rattle.reading.proofs.Answering.{place-within, place-holds, searched, position-is, position-within, place-is}
+use Rattle.promises.proofs.Lookups.{place-within, place-holds}
+use Rattle.reading.proofs.Answering.{searched, position-is, position-within, place-is}
 
 -- the word of a record alone belongs to its page, since without bytes there is no record
 pub single-source : {k v page : List ℕ} {w : ℕ} → Single k v page w → (s : List ℕ) → sourceOf s page w ≡ page
@@ -85,12 +87,12 @@ module _ {s u index : List ℕ} {n : ℕ} {found : Searched} {word : ℕ} (b : B
         (omega (arith, word-small s index (p .accepted .tree) n b (p .accepted .judged) (p .accepted .indexed) (p .accepted .size) (p .accepted .room) position within))
 
     pub old-within : place + 32 ≤ length (sourceOf s u (getD index position 0))
-    old-within = rw old-source (place-within (p .accepted) b key place there)
+    old-within = rw old-source (place-within s b (p .accepted .tree) (p .accepted .judged) key place there)
 
-    old-value : take 32 (drop place (sourceOf s u (getD index position 0))) ≡ recordOfWord s u (getD index position 0) .val
+    old-value : valueIn (sourceOf s u (getD index position 0)) place ≡ recordOfWord s u (getD index position 0) .val
     old-value =
         let same = first-record s index (p .accepted .tree) n b (p .accepted .judged) (p .accepted .indexed) (p .accepted .size) (p .accepted .room) u position within in
-        let value = place-holds (p .accepted) b key place there _ (find-at key nothing rs (sorted a) position (at .0) (at .1)) in
+        let value = place-holds s b (p .accepted .tree) (p .accepted .judged) key place there _ (find-at key nothing rs (sorted a) position (at .0) (at .1)) in
         rw old-source (value ∙ ap (λ (r : Record). r .val) (sym same))
 
     module _ (buffer₀ buffer : List ℕ) (other : FetchedAt) (f : FetchSays u word buffer₀ 0 buffer other) where
@@ -103,7 +105,7 @@ module _ {s u index : List ℕ} {n : ℕ} {found : Searched} {word : ℕ} (b : B
       pub new-within : other .value + 32 ≤ length (sourceOf s u word)
       new-within = omega (arith, fetched .value, value-within (p .stands .held .there))
 
-      new-value : take 32 (drop (other .value) (sourceOf s u word)) ≡ recordOfWord s u word .val
+      new-value : valueIn (sourceOf s u word) (other .value) ≡ recordOfWord s u word .val
       new-value =
           rw (fetched .value) (p .stands .held .there .bytes ∙ ap (λ (r : Record). r .val) (sym (word-record (p .stands .held))))
 

@@ -5,9 +5,9 @@ use mathlib.Core.Bool.{Bool, true, false, _&&_}
 use mathlib.Core.Option.{Option, none, some}
 use mathlib.Core.List.{List, [], _∷_, _++_}
 use native.Mathlib.Omega.{arith}
-use lib.ListN.{length}
+use lib.ListN.{length, getD}
 use lib.Dec.{leb}
-use borrow.Author.Tests.{le-leb, eqb-true}
+use borrow.Author.Tests.{le-leb, eq-eqb, ne-eqb}
 use borrow.Table.Steps.{cases}
 use Rattle.limits.specs.Limits.{longest, most}
 use Rattle.bytestring.specs.Bytes.{zeros}
@@ -17,7 +17,7 @@ use Rattle.answer.specs.declared.Answer.{Answer}
 use Rattle.answer.specs.declared.Answer.the-variants.{Done, Refused}
 use Rattle.key.specs.Key.{lawful, slashAnswer}
 use Rattle.key.proofs.SlashLaws.{slash-refused}
-use Rattle.value.specs.Value.{isValue}
+use Rattle.value.specs.Value.{isCodec, isValue}
 use Rattle.tree.specs.Record.{Record, records}
 use Rattle.tree.specs.Table.{SpeltTree, tableOf}
 use Rattle.tree.specs.Judge.{Test, due, refused, accepted, judge}
@@ -75,9 +75,23 @@ test-held t ts e =
     cases (t .1) (λ h. (h, rw h at e))
     (λ h. let f : some (t .0) ≡ none = rw h at e in let z : _≡_ {A = ℕ} 0 1 = cc in absurd (omega arith))
 
-pub tested-value : (k v : List ℕ) → due (recordTests k v) ≡ none → length v ≡ 32
-unfolding isValue
-tested-value k v e = eqb-true (length v) 32 (test-held _ _ (test-held _ _ e .1) .0)
+-- a value argument
+module _ (v : List ℕ) where
+  pub value-short : (length v ≡ 33 → ⊥) → isValue v ≡ false
+  unfolding isValue
+  value-short h = rw (ne-eqb (length v) 33 h)
+
+  module _ (n : length v ≡ 33) (c : ℕ) (e : c ≡ getD v 0 0) where
+    pub value-other : false ≡ isCodec c → isValue v ≡ false
+    unfolding isValue
+    value-other h = rw (← e, ← h, eq-eqb (length v) 33 n)
+
+    pub value-right : true ≡ isCodec c → isValue v ≡ true
+    unfolding isValue
+    value-right h = rw (← e, ← h, eq-eqb (length v) 33 n)
+
+pub tested-value : (k v : List ℕ) → due (recordTests k v) ≡ none → isValue v ≡ true
+tested-value k v e = test-held _ _ (test-held _ _ e .1) .0
 
 pub tested-key : (k v : List ℕ) → due (recordTests k v) ≡ none → lawful k ≡ true
 tested-key k v e = test-held _ _ e .0

@@ -5,7 +5,7 @@ use mathlib.Core.Bool.{not}
 use mathlib.Core.Option.{Option, none, some}
 use mathlib.Core.List.{List, [], _∷_}
 use Rattle.answer.specs.declared.Refusal.{Refusal}
-use Rattle.answer.specs.declared.Refusal.the-variants.{UnlawfulKey, ValueLength, FirstAfterLast}
+use Rattle.answer.specs.declared.Refusal.the-variants.{UnlawfulKey, WrongValue, FirstAfterLast}
 use Rattle.answer.specs.declared.Answer.{Answer}
 use Rattle.answer.specs.declared.Answer.the-variants.{Done, Refused}
 use Rattle.key.specs.Key.{lawful, less}
@@ -18,7 +18,7 @@ rangeTests first last = (UnlawfulKey, lawful first) ∷ (UnlawfulKey, lawful las
 
 -- The key of put and join, then the value.
 abbrev pub recordTests : List ℕ → List ℕ → List Test
-recordTests k v = (UnlawfulKey, lawful k) ∷ (ValueLength, isValue v) ∷ []
+recordTests k v = (UnlawfulKey, lawful k) ∷ (WrongValue, isValue v) ∷ []
 
 -- A refusal that is due is answered by its number, and none by 0.
 unfoldable pub answerDue : Option Refusal → Answer

@@ -20,7 +20,7 @@ use row::search::Searched;
 use row::search::search;
 use row_words::leave_out;
 use row_words::single;
-use value::value_at;
+use value::as_value;
 use writer::refusal::refuse;
 use writer::refusal::refuse_headed;
 use writer::write_headed;
@@ -134,7 +134,7 @@ fn set_accepted(
         return refuse_headed(out, refusal, head);
     }
     let mut page = [0u8; 512];
-    let word = single(key, value_at(value, 0), &mut page);
+    let word = single(key, as_value(value), &mut page);
     let found = search(register, index, count, key);
     let end = root_end(register, chains, n);
     let root = &register[..end];

@@ -5,6 +5,7 @@ use key::Order;
 use key_calls::slash;
 use key_order::compare;
 use value::VALUE;
+use value::is_codec;
 ghost use mathlib.Core.Path.{_≡_};
 ghost use Rattle.key.specs.Key.{less};
 ghost use Rattle.tree.specs.Judge.{due};
@@ -45,7 +46,10 @@ pub fn test_record(key: &[u8], value: &[u8]) -> Answer
         return Answer::Refused(refusal);
     }
     if value.len() != VALUE {
-        return Answer::Refused(Refusal::ValueLength);
+        return Answer::Refused(Refusal::WrongValue);
+    }
+    if !is_codec(value[0]) {
+        return Answer::Refused(Refusal::WrongValue);
     }
     Answer::Done(0)
 }

@@ -3,7 +3,8 @@
 
 use crate::common::forge::{link_to, right_chain, widest_page, Entry, Page};
 use crate::common::sets::{numbered_keys, set, set_of_layers, Kind};
-use independent::{pages, sha256, table, Set};
+use crate::subject::blocks;
+use independent::{pages, sha256, table, Codec, Set};
 
 /// Two registers that the calls are timed on.
 pub struct Hard {
@@ -50,11 +51,11 @@ fn key_bytes(page: &Page) -> usize {
 /// values of the second register are others, so that the two share no page.
 fn many_pages() -> Hard {
     let layers: Vec<u8> = (0..4_095).map(|n| if n % 2 == 1 { 6 } else { 0 }).collect();
-    let first = set_of_layers(&layers);
+    let first = blocks(set_of_layers(&layers));
     assert_eq!(pages(&first).len(), 12_289);
     let mut second = first.clone();
     for value in second.values_mut() {
-        value[0] ^= 1;
+        value.digest[0] ^= 1;
     }
     let keys: usize = first.keys().map(Vec::len).sum();
     let tables = [first, second].map(|set: Set| table(&set));
@@ -100,7 +101,7 @@ fn long_chains() -> Hard {
 /// layers are right but that of the last key.
 fn deep_pages() -> Hard {
     let layers: Vec<u8> = (0..4_095).map(|n| n % 2).map(|n| n as u8).collect();
-    let below = Page::of_set(&set_of_layers(&layers));
+    let below = Page::of_set(&blocks(set_of_layers(&layers)));
     let mut root = Page::of_keys(&[b"b/b1"]);
     root.left = link_to((1..40).fold(below, |page, _| Page::above(page)));
     Hard::refused("4,095 keys in pages 40 levels deep", &root, 9)
@@ -193,14 +194,14 @@ fn longest_keys() -> HardPath {
 
 /// An ordinary path, with another value in its last page.
 fn damaged_last_page() -> HardPath {
-    let set = set(Kind::Ordinary, 4_096);
+    let set = blocks(set(Kind::Ordinary, 4_096));
     let root = Page::of_set(&set);
     let root = root.written();
     // The longest path to the last entry of a page, which stands before three bytes.
     let paths = set.keys().map(|key| (root.path(key).concat(), key));
     let is_last = |(path, key): &(Vec<u8>, &Vec<u8>)| {
-        let place = independent::verify(path, key, &root.digest);
-        place == Ok(Some(path.len() - 35))
+        let verdict = independent::verify(path, key, &root.digest);
+        verdict == Ok(Some((path.len() - 35, Codec::DagCbor)))
     };
     let longest = paths.filter(is_last).max_by_key(|(path, _)| path.len());
     let (mut path, key) = longest.expect("there are such pages");

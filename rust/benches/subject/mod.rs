@@ -7,8 +7,8 @@
 use crate::common::calls::mijdegen_digest;
 use crate::common::forge::Page;
 use crate::common::heads::{head_for, head_of};
-use crate::common::sets::{set, Kind};
-use independent::Set;
+use crate::common::sets::{set, under, Kind};
+use independent::{Set, Value};
 use std::hint::black_box;
 
 /// A register, with its set and its pages.
@@ -22,6 +22,11 @@ pub struct Subject {
     /// The keys, one after the other, and where each ends.
     keys: Vec<u8>,
     key_ends: Vec<usize>,
+}
+
+/// Gives the set with all values under the codec of record blocks, which all times are of.
+pub fn blocks(set: Set) -> Set {
+    under(Value::dag_cbor, set)
 }
 
 /// Calls the library's digest as C does for each of these pieces, which end at these places.
@@ -50,7 +55,7 @@ impl Subject {
 
     /// Gives the register of so many records.
     pub fn new(name: &'static str, kind: Kind, count: usize) -> Subject {
-        Subject::of_set(name, kind, set(kind, count))
+        Subject::of_set(name, kind, blocks(set(kind, count)))
     }
 
     /// Gives the register of the set.

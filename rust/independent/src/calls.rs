@@ -6,11 +6,13 @@
 use crate::key::{collection_of, is_collection, lawful};
 use crate::number::{
     FIRST_AFTER_LAST, KEY_ABSENT, NO_ROOM, NO_SUCH_SCREEN, TOO_MANY_RECORDS, UNLAWFUL_KEY,
-    UNTRUE_HEAD, VALUE_LENGTH,
+    UNTRUE_HEAD, WRONG_VALUE,
 };
 use crate::reader::{judge, Below, ReadPage, Reader, Record, Sought};
 use crate::table::table_and_head;
-use crate::{sha256, Digest, Head, Set, Value, LONGEST, MOST_RECORDS, PER_SCREEN};
+use crate::{
+    sha256, Codec, Digest, Head, Set, Value, ValueBytes, LONGEST, MOST_RECORDS, PER_SCREEN,
+};
 use std::collections::HashSet;
 
 /// Gives the head of the register.
@@ -23,19 +25,20 @@ pub fn set_of(register: &[u8]) -> Result<Set, u8> {
     Ok(judge(register)?.set())
 }
 
-/// Gives the place in the register, counted from 0, where the 32 bytes of the key's value begin.
-pub fn lookup(register: &[u8], key: &[u8]) -> Result<usize, u8> {
+/// Gives the place in the register, counted from 0, where the 32 digest bytes of the key's value
+/// begin, and the codec.
+pub fn lookup(register: &[u8], key: &[u8]) -> Result<(usize, Codec), u8> {
     let records = judge(register)?.records;
     lawful_key(key)?;
     match records.binary_search_by(|record| record.key.as_slice().cmp(key)) {
-        Ok(n) => Ok(records[n].place),
+        Ok(n) => Ok((records[n].place, records[n].value.codec)),
         Err(_) => Err(KEY_ABSENT),
     }
 }
 
 /// Writes the key and the value of the n-th record in key order, n from 0. Gives the key's
 /// length, or 0 past the end.
-pub fn list(register: &[u8], n: u64, out: &mut [u8], value: &mut Value) -> Result<usize, u8> {
+pub fn list(register: &[u8], n: u64, out: &mut [u8], value: &mut ValueBytes) -> Result<usize, u8> {
     out.fill(0);
     value.fill(0);
     let records = judge(register)?.records;
@@ -52,7 +55,7 @@ pub fn at_or_after(
     register: &[u8],
     key: &[u8],
     out: &mut [u8],
-    value: &mut Value,
+    value: &mut ValueBytes,
 ) -> Result<usize, u8> {
     out.fill(0);
     value.fill(0);
@@ -64,7 +67,12 @@ pub fn at_or_after(
 
 /// Writes the key and the value of the last record before the key. Gives the length of the
 /// record's key.
-pub fn before(register: &[u8], key: &[u8], out: &mut [u8], value: &mut Value) -> Result<usize, u8> {
+pub fn before(
+    register: &[u8],
+    key: &[u8],
+    out: &mut [u8],
+    value: &mut ValueBytes,
+) -> Result<usize, u8> {
     out.fill(0);
     value.fill(0);
     let records = judge(register)?.records;
@@ -149,12 +157,12 @@ pub fn difference(first: &[u8], second: &[u8], out: &mut [u8]) -> Result<(usize,
     open(&second.root, &known, &mut opened);
 
     let held = first.set();
-    let lacking = |record: &Record| held.get(&record.key) != Some(record.value);
+    let lacking = |record: &Record| held.get(&record.key) != Some(&record.value);
     let set: Set = opened
         .iter()
         .flat_map(|page| page.own_records())
         .filter(lacking)
-        .map(|record| (record.key, *record.value))
+        .map(|record| (record.key, record.value))
         .collect();
     Ok((write(&set, out)?, opened.len()))
 }
@@ -211,19 +219,19 @@ pub fn path(register: &[u8], key: &[u8], out: &mut [u8]) -> Result<usize, u8> {
 }
 
 /// Judges what a path says of the key, to one who holds the root's digest. Gives the place in the
-/// path, counted from 0, where the 32 bytes of the key's value begin, or none where the key is
-/// absent.
-pub fn verify(path: &[u8], key: &[u8], root: &[u8]) -> Result<Option<usize>, u8> {
+/// path, counted from 0, where the 32 digest bytes of the key's value begin, and the codec, or none
+/// where the key is absent.
+pub fn verify(path: &[u8], key: &[u8], root: &[u8]) -> Result<Option<(usize, Codec)>, u8> {
     let mut reader = Reader::new(path)?;
     lawful_key(key)?;
-    let root: &Digest = root.try_into().map_err(|_| VALUE_LENGTH)?;
+    let root: &Digest = root.try_into().map_err(|_| WRONG_VALUE)?;
 
     let (mut depth, mut digest) = (1, root);
     let found = loop {
         let page = reader.page_alone(depth, Some(digest))?;
         page.judge_alone()?;
         match page.search(key) {
-            Sought::Entry(place) => break Some(place),
+            Sought::Entry(place, codec) => break Some((place, codec)),
             Sought::Gap(None) => break None,
             Sought::Gap(Some(next)) => digest = next,
         }
@@ -329,9 +337,9 @@ fn write_and_move(set: &Set, head: &mut Head, out: &mut [u8]) -> Result<usize, u
 }
 
 /// Writes the key and the value of a record into outputs of zeros. Gives the key's length.
-fn write_record(record: &Record, out: &mut [u8], value: &mut Value) -> Result<usize, u8> {
+fn write_record(record: &Record, out: &mut [u8], value: &mut ValueBytes) -> Result<usize, u8> {
     let length = write_bytes(&record.key, out)?;
-    *value = *record.value;
+    *value = record.value.bytes();
     Ok(length)
 }
 
@@ -353,5 +361,5 @@ fn lawful_key(key: &[u8]) -> Result<(), u8> {
 
 /// Number 11 for a value argument.
 fn whole_value(value: &[u8]) -> Result<Value, u8> {
-    value.try_into().map_err(|_| VALUE_LENGTH)
+    Value::of_bytes(value).ok_or(WRONG_VALUE)
 }

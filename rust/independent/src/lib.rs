@@ -16,6 +16,7 @@ mod reader;
 mod sha256;
 mod table;
 pub mod tree;
+mod value;
 
 pub use calls::{
     at_or_after, before, check, difference, join, join_in, list, lookup, merge, merge_in, path,
@@ -25,14 +26,12 @@ pub use head::{head_of, Head};
 pub use key::{lawful, layer, slash, LONGEST_KEY};
 pub use sha256::sha256;
 pub use table::{pages, table, tree_of};
+pub use value::{Codec, Value, ValueBytes};
 
 use std::collections::BTreeMap;
 
 /// A SHA-256 digest.
 pub type Digest = [u8; 32];
-
-/// The value of a record: the digest of a block that is kept elsewhere.
-pub type Value = [u8; 32];
 
 /// A set of records: the value of each key, in key order. Keys are ordered byte by byte, and a
 /// key stands before every longer key that begins with it.

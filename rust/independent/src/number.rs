@@ -22,8 +22,8 @@ pub const KEYS_NOT_RISING: u8 = 8;
 pub const WRONG_TREE: u8 = 9;
 /// A link's digest is not that of its page.
 pub const WRONG_DIGEST: u8 = 10;
-/// A value argument or a root digest is not 32 bytes.
-pub const VALUE_LENGTH: u8 = 11;
+/// A value argument is not 33 bytes with a codec first, or a root digest is not 32 bytes.
+pub const WRONG_VALUE: u8 = 11;
 /// The key is absent, for lookup and remove; no record lies at or after the key, or before it.
 pub const KEY_ABSENT: u8 = 12;
 /// The result (a table, a path, or the key where a record is given) is longer than the output, or

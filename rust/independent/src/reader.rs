@@ -5,9 +5,9 @@ use crate::number::{
     BYTES_FOLLOW, DEPARTS, ENDS_EARLY, KEYS_NOT_RISING, PAGE_NOT_DUE, TOO_LONG, TOO_MANY_RECORDS,
     UNLAWFUL_KEY, WRONG_DIGEST, WRONG_PREFIX, WRONG_TREE,
 };
-use crate::table::{ARRAY, BYTE_STRING, LINK, NULL, NUMBER};
+use crate::table::{AFTER_CODEC, ARRAY, BEFORE_CODEC, BYTE_STRING, NULL, NUMBER};
 use crate::tree::{build, top_layer, Page};
-use crate::{sha256, Digest, Head, Set, Value, LONGEST, MOST_RECORDS};
+use crate::{sha256, Codec, Digest, Head, Set, Value, LONGEST, MOST_RECORDS};
 
 /// How many pages may follow one another by links, from the root down and itself included.
 const DEEPEST: usize = 129;
@@ -17,7 +17,7 @@ pub(crate) struct Accepted<'a> {
     /// The root, with all pages below it.
     pub root: ReadPage<'a>,
     /// The records in key order.
-    pub records: Vec<Record<'a>>,
+    pub records: Vec<Record>,
     /// The highest layer of any key, and 0 where there is none.
     layer: u8,
 }
@@ -32,17 +32,17 @@ impl Accepted<'_> {
     pub fn set(&self) -> Set {
         let records = self.records.iter();
         records
-            .map(|record| (record.key.clone(), *record.value))
+            .map(|record| (record.key.clone(), record.value))
             .collect()
     }
 }
 
 /// A record of a register or a path.
 #[derive(Clone)]
-pub(crate) struct Record<'a> {
+pub(crate) struct Record {
     pub key: Vec<u8>,
-    pub value: &'a Value,
-    /// Where the value's 32 bytes begin in the input, counted from 0.
+    pub value: Value,
+    /// Where the 32 bytes of the value's digest begin in the input, counted from 0.
     pub place: usize,
 }
 
@@ -67,8 +67,8 @@ pub(crate) type Link<'a> = Option<&'a Digest>;
 
 /// Where a search for a key leads in one page.
 pub(crate) enum Sought<'p, Gap> {
-    /// To an entry, whose value begins at this place.
-    Entry(usize),
+    /// To an entry, with the place of its value's digest and the codec.
+    Entry(usize, Codec),
     /// To the gap where the key would stand.
     Gap(&'p Gap),
 }
@@ -77,8 +77,8 @@ pub(crate) enum Sought<'p, Gap> {
 pub(crate) struct ReadEntry<'a> {
     prefix: usize,
     remainder: &'a [u8],
-    value: &'a Value,
-    /// Where the value's 32 bytes begin in the input.
+    value: Value,
+    /// Where the 32 bytes of the value's digest begin in the input.
     place: usize,
 }
 
@@ -211,9 +211,12 @@ impl<'a> Reader<'a> {
         self.fixed(b"\x61t")?;
         let after = self.link_or_null()?;
         self.fixed(b"\x61v")?;
-        self.fixed(&LINK)?;
+        self.fixed(&BEFORE_CODEC)?;
+        let codec = Codec::of_byte(self.byte()?).ok_or(DEPARTS)?;
+        self.fixed(&AFTER_CODEC)?;
         let place = self.place;
-        let value = self.digest()?;
+        let digest = *self.digest()?;
+        let value = Value { digest, codec };
         let entry = ReadEntry {
             prefix,
             remainder,
@@ -223,16 +226,18 @@ impl<'a> Reader<'a> {
         Ok((entry, after))
     }
 
-    /// Reads a link and gives its digest, or reads null.
+    /// Reads a link to a page and gives its digest, or reads null.
     fn link_or_null(&mut self) -> Result<Link<'a>, u8> {
         let first = self.byte()?;
         if first == NULL {
             return Ok(None);
         }
-        if first != LINK[0] {
+        if first != BEFORE_CODEC[0] {
             return Err(DEPARTS);
         }
-        self.fixed(&LINK[1..])?;
+        self.fixed(&BEFORE_CODEC[1..])?;
+        self.fixed(&[Codec::DagCbor.byte()])?;
+        self.fixed(&AFTER_CODEC)?;
         Ok(Some(self.digest()?))
     }
 
@@ -317,7 +322,7 @@ impl<'a> ReadPage<'a> {
     }
 
     /// Adds the records of the page and of all pages below it, in tree order.
-    fn add_records(&self, records: &mut Vec<Record<'a>>) {
+    fn add_records(&self, records: &mut Vec<Record>) {
         if let Some(page) = self.left.page() {
             page.add_records(records);
         }
@@ -374,7 +379,7 @@ impl<'a, Gap> ReadPage<'a, Gap> {
     }
 
     /// Gives the records of the page alone.
-    pub fn own_records(&self) -> Vec<Record<'a>> {
+    pub fn own_records(&self) -> Vec<Record> {
         let mut key = Vec::new();
         let entries = self.entries.iter();
         entries
@@ -398,7 +403,7 @@ impl<'a, Gap> ReadPage<'a, Gap> {
         let records = self.own_records();
         let lesser = records.partition_point(|record| record.key.as_slice() < key);
         match records.get(lesser) {
-            Some(record) if record.key == key => Sought::Entry(record.place),
+            Some(record) if record.key == key => Sought::Entry(record.place, record.value.codec),
             _ if lesser == 0 => Sought::Gap(&self.left),
             _ => Sought::Gap(&self.entries[lesser - 1].1),
         }
@@ -412,7 +417,7 @@ impl<'a> Below<'a> {
     }
 }
 
-impl<'a> ReadEntry<'a> {
+impl ReadEntry<'_> {
     /// Says whether the prefix length is the count of all leading bytes shared with the key
     /// before. The first bytes are the same by the way a key is spelt, so only the next byte can
     /// be shared beyond the prefix.
@@ -430,7 +435,7 @@ impl<'a> ReadEntry<'a> {
         key.extend(self.remainder);
     }
 
-    fn record(&self, key: &[u8]) -> Record<'a> {
+    fn record(&self, key: &[u8]) -> Record {
         Record {
             key: key.to_vec(),
             value: self.value,

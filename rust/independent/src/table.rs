@@ -4,8 +4,9 @@ use crate::key::layer;
 use crate::tree::{build, top_layer, Gap, Page};
 use crate::{sha256, Digest, Head, Set, Value};
 
-/// The nine bytes with which each link begins.
-pub(crate) const LINK: [u8; 9] = [0xd8, 0x2a, 0x58, 0x25, 0x00, 0x01, 0x71, 0x12, 0x20];
+/// The bytes of a link before its codec, and those between the codec and the digest.
+pub(crate) const BEFORE_CODEC: [u8; 6] = [0xd8, 0x2a, 0x58, 0x25, 0x00, 0x01];
+pub(crate) const AFTER_CODEC: [u8; 2] = [0x12, 0x20];
 
 /// The byte that stands where a gap has no link.
 pub(crate) const NULL: u8 = 0xf6;
@@ -76,13 +77,13 @@ fn add_page(page: &Page<(&[u8], &Value)>, pages: &mut Vec<Vec<u8>>) -> Digest {
         bytes.extend(b"\x61p");
         push_number(&mut bytes, NUMBER, prefix);
         bytes.extend(b"\x61t");
-        push_link(&mut bytes, link.as_ref());
+        push_gap(&mut bytes, *link);
         bytes.extend(b"\x61v");
-        push_link(&mut bytes, Some(value));
+        push_link(&mut bytes, value);
         key_before = key;
     }
     bytes.extend(b"\x61l");
-    push_link(&mut bytes, left.as_ref());
+    push_gap(&mut bytes, left);
 
     let digest = sha256(&bytes);
     pages[place] = bytes;
@@ -110,15 +111,21 @@ fn push_number(bytes: &mut Vec<u8>, kind: u8, number: usize) {
     }
 }
 
-/// Writes a link, or null where there is none.
-fn push_link(bytes: &mut Vec<u8>, digest: Option<&Digest>) {
+/// Writes the link of a gap, or null where there is none. A page is a block, so its link has that
+/// codec.
+fn push_gap(bytes: &mut Vec<u8>, digest: Option<Digest>) {
     match digest {
-        Some(digest) => {
-            bytes.extend(LINK);
-            bytes.extend(digest);
-        }
+        Some(digest) => push_link(bytes, &Value::dag_cbor(digest)),
         None => bytes.push(NULL),
     }
+}
+
+/// Writes a link.
+fn push_link(bytes: &mut Vec<u8>, value: &Value) {
+    bytes.extend(BEFORE_CODEC);
+    bytes.push(value.codec.byte());
+    bytes.extend(AFTER_CODEC);
+    bytes.extend(value.digest);
 }
 
 #[cfg(test)]

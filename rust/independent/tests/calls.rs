@@ -2,7 +2,8 @@
 
 use independent::{
     at_or_after, before, check, difference, head_of, join, layer, list, lookup, merge, pages, path,
-    put, remove, run, screen, set_of, sha256, table, tree, tree_of, verify, Digest, Set, Value,
+    put, remove, run, screen, set_of, sha256, table, tree, tree_of, verify, Codec, Digest, Set,
+    Value, ValueBytes,
 };
 use std::collections::BTreeSet;
 
@@ -16,12 +17,15 @@ impl Random {
         (self.0 >> 33) as usize % limit
     }
 
-    /// One of few values, so that two records often have the same.
+    /// One of few values, so that two records often have the same, or the same digest alone.
     fn value(&mut self) -> Value {
-        let mut value = [0; 32];
-        value[31] = self.below(3) as u8;
-        value[0] = self.below(2) as u8;
-        value
+        let mut digest = [0; 32];
+        digest[31] = self.below(3) as u8;
+        digest[0] = self.below(2) as u8;
+        match self.below(2) {
+            0 => Value::raw(digest),
+            _ => Value::dag_cbor(digest),
+        }
     }
 
     /// One of few keys.
@@ -33,6 +37,14 @@ impl Random {
         let count = self.below(most + 1);
         (0..count).map(|_| (self.key(), self.value())).collect()
     }
+}
+
+/// Gives the value whose digest stands at the place.
+fn value_at(bytes: &[u8], (place, codec): (usize, Codec)) -> Value {
+    // The codec stands three bytes before the digest.
+    assert_eq!(bytes[place - 3], codec.byte());
+    let digest = bytes[place..place + 32].try_into().expect("32 bytes");
+    Value { digest, codec }
 }
 
 /// Calls with an output of 20,000 bytes. Gives what was written, after a check that zeros follow.
@@ -64,20 +76,20 @@ fn lookup_and_list() {
         let set = random.set(60);
         let register = table(&set);
         for (n, (key, value)) in set.iter().enumerate() {
-            let place = lookup(&register, key).expect("the key is present");
-            assert_eq!(register[place..place + 32], *value);
+            let found = lookup(&register, key).expect("the key is present");
+            assert_eq!(value_at(&register, found), *value);
 
-            let (mut out, mut listed) = ([0xaa; 10], [0xaa; 32]);
+            let (mut out, mut listed) = ([0xaa; 10], [0xaa; 33]);
             let length = list(&register, n as u64, &mut out, &mut listed);
             assert_eq!(length, Ok(key.len()));
             assert_eq!(out[..key.len()], **key);
             assert!(out[key.len()..].iter().all(|byte| *byte == 0));
-            assert_eq!(listed, *value);
+            assert_eq!(listed, value.bytes());
         }
         for n in [set.len() as u64, set.len() as u64 + 1, u64::MAX] {
-            let (mut out, mut listed) = ([0xaa; 10], [0xaa; 32]);
+            let (mut out, mut listed) = ([0xaa; 10], [0xaa; 33]);
             assert_eq!(list(&register, n, &mut out, &mut listed), Ok(0));
-            assert_eq!((out, listed), ([0; 10], [0; 32]));
+            assert_eq!((out, listed), ([0; 10], [0; 33]));
             assert_eq!(list(&register, n, &mut [], &mut listed), Ok(0));
         }
     }
@@ -86,14 +98,16 @@ fn lookup_and_list() {
 /// Calls with an output of 10 bytes for the key. Gives the record, after a check that zeros follow
 /// the key, or that all is zero where the call is refused.
 fn given(
-    call: impl FnOnce(&mut [u8], &mut Value) -> Result<usize, u8>,
+    call: impl FnOnce(&mut [u8], &mut ValueBytes) -> Result<usize, u8>,
 ) -> Result<(Vec<u8>, Value), u8> {
-    let (mut out, mut value) = ([0xaa; 10], [0xaa; 32]);
+    let (mut out, mut value) = ([0xaa; 10], [0xaa; 33]);
     let length = call(&mut out, &mut value);
     let end = *length.as_ref().unwrap_or(&0);
     assert!(out[end..].iter().all(|byte| *byte == 0));
-    assert!(length.is_ok() || value == [0; 32]);
-    length.map(|length| (out[..length].to_vec(), value))
+    assert!(length.is_ok() || value == [0; 33]);
+    let length = length?;
+    let value = Value::of_bytes(&value).expect("a codec and a digest");
+    Ok((out[..length].to_vec(), value))
 }
 
 /// The records beside a key, by the number of lesser keys in the set.
@@ -236,16 +250,16 @@ fn paths_and_verdicts() {
             let found = written(|out| path(&register, &key, out)).expect("the register is short");
             assert_eq!(found, opened_for(&set, &key));
             assert!(found.len() <= register.len());
-            let value = |place: usize| &found[place..place + 32];
+            let value = |place| value_at(&found, place);
             let verdict = verify(&found, &key, &root).expect("the path is right");
-            assert_eq!(verdict.map(value), set.get(&key).map(|value| &value[..]));
+            assert_eq!(verdict.map(value), set.get(&key).copied());
             present += usize::from(verdict.is_some());
             absent += usize::from(verdict.is_none());
 
             let other = random.key();
             match verify(&found, &other, &root) {
                 Ok(verdict) => {
-                    assert_eq!(verdict.map(value), set.get(&other).map(|value| &value[..]));
+                    assert_eq!(verdict.map(value), set.get(&other).copied());
                     others += 1;
                 }
                 // The search for the other key ends before, or goes on to another page.
@@ -265,7 +279,10 @@ fn paths_and_verdicts() {
 fn damaged_paths() {
     let few = (0..60).filter(|number| number % 3 != 0);
     let set: Set = few
-        .map(|number| (format!("few/{number}").into_bytes(), [number; 32]))
+        .map(|number| {
+            let key = format!("few/{number}").into_bytes();
+            (key, Value::raw([number; 32]))
+        })
         .collect();
     assert!(pages(&set).len() > 10);
     let (register, root) = (table(&set), sha256(&pages(&set)[0]));
@@ -300,7 +317,7 @@ fn a_list_of_calls() {
         let result = match random.below(4) {
             0 => {
                 set.insert(key.clone(), value);
-                written(|out| put(&register, &mut head, &key, &value, out))
+                written(|out| put(&register, &mut head, &key, &value.bytes(), out))
             }
             1 => {
                 let expected = set.remove(&key).ok_or(12);
@@ -316,7 +333,7 @@ fn a_list_of_calls() {
                 if set.get(&key) < Some(&value) {
                     set.insert(key.clone(), value);
                 }
-                written(|out| join(&register, &mut head, &key, &value, out))
+                written(|out| join(&register, &mut head, &key, &value.bytes(), out))
             }
             _ => {
                 let second = random.set(5);
@@ -414,7 +431,7 @@ fn differences() {
 #[test]
 fn differences_of_empty_registers() {
     let empty = table(&Set::new());
-    let full = table(&Set::from([(b"a/b1".to_vec(), [1; 32])]));
+    let full = table(&Set::from([(b"a/b1".to_vec(), Value::raw([1; 32]))]));
     let mut out = [0; 64];
     assert_eq!(difference(&empty, &empty, &mut out), Ok((7, 0)));
     assert_eq!(difference(&full, &full, &mut out), Ok((7, 0)));
@@ -435,7 +452,10 @@ fn layers_in_the_tree() {
         assert!(!page.entries.is_empty() || page.left.is_some());
     }
     let set: Set = (0..1_000)
-        .map(|number| (format!("layers/{number}").into_bytes(), [0; 32]))
+        .map(|number| {
+            let key = format!("layers/{number}").into_bytes();
+            (key, Value::dag_cbor([0; 32]))
+        })
         .collect();
     let highest = set.keys().map(|key| layer(key)).max();
     visit(&tree_of(&set), highest.expect("the set has records"));

@@ -2,12 +2,12 @@
 
 use independent::{
     at_or_after, before, difference, list, lookup, path, run, screen, sha256, slash, table, verify,
-    Head, Set, Value, LONGEST, MOST_RECORDS,
+    Codec, Head, Set, Value, ValueBytes, LONGEST, MOST_RECORDS,
 };
 
 const EMPTY: [u8; 7] = [0xa2, 0x61, 0x65, 0x80, 0x61, 0x6c, 0xf6];
 
-const VALUE: Value = [0x11; 32];
+const VALUE: Value = Value::dag_cbor([0x11; 32]);
 
 /// Gives the count of the register's records.
 fn check(register: &[u8]) -> Result<usize, u8> {
@@ -29,6 +29,10 @@ fn put(register: &[u8], key: &[u8], value: &[u8], out: &mut [u8]) -> Result<usiz
     independent::put(register, &mut head(register), key, value, out)
 }
 
+fn put_value(register: &[u8], key: &[u8], out: &mut [u8]) -> Result<usize, u8> {
+    put(register, key, &VALUE.bytes(), out)
+}
+
 fn join(register: &[u8], key: &[u8], value: &[u8], out: &mut [u8]) -> Result<usize, u8> {
     independent::join(register, &mut head(register), key, value, out)
 }
@@ -42,7 +46,7 @@ fn merge(first: &[u8], second: &[u8], out: &mut [u8]) -> Result<usize, u8> {
 }
 
 /// A call that gives a record beside a key.
-type Beside = fn(&[u8], &[u8], &mut [u8], &mut Value) -> Result<usize, u8>;
+type Beside = fn(&[u8], &[u8], &mut [u8], &mut ValueBytes) -> Result<usize, u8>;
 
 /// Writes a link, or null.
 fn link(digest: Option<[u8; 32]>) -> Vec<u8> {
@@ -65,7 +69,7 @@ fn linked_entry(prefix: u8, remainder: &[u8], after: Option<[u8; 32]>) -> Vec<u8
     bytes.extend([0x61, b'p', prefix, 0x61, b't']);
     bytes.extend(link(after));
     bytes.extend([0x61, b'v']);
-    bytes.extend(link(Some(VALUE)));
+    bytes.extend(link(Some(VALUE.digest)));
     bytes
 }
 
@@ -116,6 +120,27 @@ fn number_2() {
 #[test]
 fn number_3() {
     assert_eq!(check(&[0xa2, 0x61, 0x6c]), Err(3));
+
+    // The seventh byte of the links in a root with a left link, then of those in an entry with a
+    // link: a value has one of two codecs, and a page has one.
+    let below = page(&[entry(0, b"a/b1")], None);
+    let left = page(&[entry(0, b"a/b2")], Some(sha256(&below)));
+    let after = page(&[linked_entry(0, b"a/b0", Some(sha256(&below)))], None);
+    for (root, page_codec, value_codec) in [(left, 69, 26), (after, 23, 66)] {
+        let register = [&root[..], &below].concat();
+        for byte in 0..=255 {
+            for (place, codecs) in [(page_codec, &[0x71][..]), (value_codec, &[0x55, 0x71])] {
+                let mut changed = register.clone();
+                assert_eq!(changed[place], 0x71);
+                changed[place] = byte;
+                let departs = !codecs.contains(&byte);
+                assert_eq!(check(&changed) == Err(3), departs, "{place} {byte}");
+                // The byte is judged before the end behind it.
+                let expected = if departs { Err(3) } else { Err(2) };
+                assert_eq!(check(&changed[..=place]), expected, "{place} {byte}");
+            }
+        }
+    }
 }
 
 #[test]
@@ -132,10 +157,10 @@ fn number_5() {
     assert_eq!(check(&table(&many(MOST_RECORDS + 1))), Err(5));
 
     let mut out = vec![0xaa; 2_000_000];
-    assert_eq!(put(&register, b"a/b1", &VALUE, &mut out), Err(5));
+    assert_eq!(put_value(&register, b"a/b1", &mut out), Err(5));
     assert!(out.iter().all(|byte| *byte == 0));
     // A present key is put, as the count stays.
-    let length = put(&register, b"many/00000", &VALUE, &mut out);
+    let length = put_value(&register, b"many/00000", &mut out);
     assert_eq!(length, Ok(register.len()));
 }
 
@@ -166,8 +191,8 @@ fn number_7() {
         assert_eq!(put(&EMPTY, key, &[1; 31], &mut [0; 100]), Err(7));
         assert_eq!(join(&EMPTY, key, &[1; 31], &mut [0; 100]), Err(7));
         assert_eq!(remove(&EMPTY, key, &mut []), Err(7));
-        assert_eq!(at_or_after(&EMPTY, key, &mut [], &mut [0; 32]), Err(7));
-        assert_eq!(before(&EMPTY, key, &mut [], &mut [0; 32]), Err(7));
+        assert_eq!(at_or_after(&EMPTY, key, &mut [], &mut [0; 33]), Err(7));
+        assert_eq!(before(&EMPTY, key, &mut [], &mut [0; 33]), Err(7));
         assert_eq!(run(&EMPTY, key, b"-/-", &mut []), Err(7));
         assert_eq!(run(&EMPTY, b"~/~", key, &mut []), Err(7));
         assert_eq!(run(&EMPTY, key, key, &mut []), Err(7));
@@ -188,13 +213,13 @@ fn number_7_by_length() {
     let key = [&[b'a'; 100][..], b"/", &[b'b'; 155]].concat();
     assert_eq!(key.len(), 256);
     assert_eq!(slash(&key), Ok(100));
-    let length = put(&EMPTY, &key, &VALUE, &mut out).expect("the key is lawful");
+    let length = put_value(&EMPTY, &key, &mut out).expect("the key is lawful");
     // 2 bytes more for the length of the remainder than where it is less than 24.
     assert_eq!(length, 64 + 252 + 2);
     assert_eq!(check(&out[..length]), Ok(1));
     let longer = [&key[..], b"b"].concat();
     assert_eq!(slash(&longer), Err(7));
-    assert_eq!(put(&EMPTY, &longer, &VALUE, &mut out), Err(7));
+    assert_eq!(put_value(&EMPTY, &longer, &mut out), Err(7));
 }
 
 #[test]
@@ -243,10 +268,15 @@ fn number_10() {
 
 #[test]
 fn number_11() {
-    for length in (0..100).filter(|length| *length != 32) {
-        let value = vec![0x11; length];
-        assert_eq!(put(&EMPTY, b"a/b1", &value, &mut []), Err(11));
-        assert_eq!(join(&EMPTY, b"a/b1", &value, &mut []), Err(11));
+    for length in 0..100 {
+        for codec in 0..=255 {
+            let mut value = vec![0x11; length];
+            value.iter_mut().take(1).for_each(|first| *first = codec);
+            let right = length == 33 && (codec == 0x55 || codec == 0x71);
+            let expected = if right { Err(13) } else { Err(11) };
+            assert_eq!(put(&EMPTY, b"a/b1", &value, &mut []), expected);
+            assert_eq!(join(&EMPTY, b"a/b1", &value, &mut []), expected);
+        }
     }
 }
 
@@ -258,15 +288,15 @@ fn number_12() {
     assert_eq!(lookup(&register, b"a/b3"), Err(12));
     // The value of `a/b2` stands in the root, and the page of `a/b1` ends in its value, two
     // bytes and null.
-    let place = lookup(&register, b"a/b1").expect("the key is present");
-    assert_eq!(place, register.len() - 3 - 32);
-    assert_eq!(lookup(&register, b"a/b2"), Ok(29));
-    assert_eq!(register[29..61], VALUE);
+    let place = register.len() - 3 - 32;
+    assert_eq!(lookup(&register, b"a/b1"), Ok((place, Codec::DagCbor)));
+    assert_eq!(lookup(&register, b"a/b2"), Ok((29, Codec::DagCbor)));
+    assert_eq!(register[29..61], VALUE.digest);
 
-    let mut value = [0xaa; 32];
+    let mut value = [0xaa; 33];
     for (register, key) in [(&EMPTY[..], &b"a/b1"[..]), (&register, b"a/b3")] {
         assert_eq!(at_or_after(register, key, &mut [], &mut value), Err(12));
-        assert_eq!(value, [0; 32]);
+        assert_eq!(value, [0; 33]);
     }
     for (register, key) in [(&EMPTY[..], &b"a/b1"[..]), (&register, b"a/b1")] {
         assert_eq!(before(register, key, &mut [], &mut value), Err(12));
@@ -276,29 +306,30 @@ fn number_12() {
 #[test]
 fn number_13() {
     let mut out = [0xaa; 64];
-    assert_eq!(put(&EMPTY, b"a/b1", &VALUE, &mut out[..63]), Err(13));
+    assert_eq!(put_value(&EMPTY, b"a/b1", &mut out[..63]), Err(13));
     assert!(out[..63].iter().all(|byte| *byte == 0));
     assert_eq!(out[63], 0xaa);
-    assert_eq!(put(&EMPTY, b"a/b1", &VALUE, &mut out), Ok(64));
+    assert_eq!(put_value(&EMPTY, b"a/b1", &mut out), Ok(64));
     // Also where nothing changes.
     let register = out;
-    assert_eq!(put(&register, b"a/b1", &VALUE, &mut [0; 63]), Err(13));
-    assert_eq!(join(&register, b"a/b1", &[0; 32], &mut [0; 63]), Err(13));
+    assert_eq!(put_value(&register, b"a/b1", &mut [0; 63]), Err(13));
+    let lesser = Value::raw([0; 32]).bytes();
+    assert_eq!(join(&register, b"a/b1", &lesser, &mut [0; 63]), Err(13));
     assert_eq!(merge(&register, &register, &mut [0; 63]), Err(13));
     assert_eq!(remove(&register, b"a/b1", &mut [0; 6]), Err(13));
     assert_eq!(difference(&register, &register, &mut [0; 6]), Err(13));
 
-    let mut value = [0xaa; 32];
+    let mut value = [0xaa; 33];
     assert_eq!(list(&register, 0, &mut [0; 3], &mut value), Err(13));
-    assert_eq!(value, [0; 32]);
+    assert_eq!(value, [0; 33]);
 
     let calls: [(Beside, &[u8]); 2] = [(at_or_after, b"a/b0"), (before, b"a/b2")];
     for (call, key) in calls {
-        let (mut out, mut value) = ([0xaa; 4], [0xaa; 32]);
+        let (mut out, mut value) = ([0xaa; 4], [0xaa; 33]);
         assert_eq!(call(&register, key, &mut out[..3], &mut value), Err(13));
-        assert_eq!((out, value), ([0, 0, 0, 0xaa], [0; 32]));
+        assert_eq!((out, value), ([0, 0, 0, 0xaa], [0; 33]));
         assert_eq!(call(&register, key, &mut out, &mut value), Ok(4));
-        assert_eq!((out, value), (*b"a/b1", VALUE));
+        assert_eq!((out, value), (*b"a/b1", VALUE.bytes()));
     }
 
     assert_eq!(run(&register, b"a/b1", b"a/b1", &mut out[..63]), Err(13));
@@ -358,6 +389,11 @@ fn number_15() {
     assert_eq!(screen(&register, b"many", 512, &mut out), Err(15));
 }
 
+/// The verdict that the key is present, with its value's digest at the place.
+fn at(place: usize) -> Result<Option<(usize, Codec)>, u8> {
+    Ok(Some((place, Codec::DagCbor)))
+}
+
 #[test]
 fn number_16() {
     let register = two_pages();
@@ -366,9 +402,9 @@ fn number_16() {
     let digest = sha256(root);
     // The value of `a/b1` ends its page but for two bytes and null.
     let place = register.len() - 3 - 32;
-    assert_eq!(verify(&register, b"a/b1", &digest), Ok(Some(place)));
+    assert_eq!(verify(&register, b"a/b1", &digest), at(place));
     assert_eq!(verify(&register, b"a/b0", &digest), Ok(None));
-    assert_eq!(verify(root, b"a/b2", &digest), Ok(Some(29)));
+    assert_eq!(verify(root, b"a/b2", &digest), at(29));
     assert_eq!(verify(root, b"a/b3", &digest), Ok(None));
 
     // Another root digest, and another page than the one that is linked.
@@ -419,11 +455,11 @@ fn numbers_of_paths() {
 
     // Layers and the count are not judged.
     let flat = page(&[entry(0, b"a/b1"), entry(3, b"2")], Some([7; 32]));
-    assert_eq!(verify(&flat, b"a/b2", &sha256(&flat)), Ok(Some(83)));
+    assert_eq!(verify(&flat, b"a/b2", &sha256(&flat)), at(83));
     let without = page(&[], Some(sha256(&below)));
     let long_way = [&without[..], &below].concat();
     let found = verify(&long_way, b"a/b1", &sha256(&without));
-    assert_eq!(found, Ok(Some(without.len() + 29)));
+    assert_eq!(found, at(without.len() + 29));
 }
 
 /// A path of one page without entries for each link, and one with an entry.
@@ -436,11 +472,7 @@ fn depth_of_paths() {
         pages.insert(0, root);
         let path = pages.concat();
         let place = path.len() - 3 - 32;
-        let expected = if depth <= 129 {
-            Ok(Some(place))
-        } else {
-            Err(3)
-        };
+        let expected = if depth <= 129 { at(place) } else { Err(3) };
         assert_eq!(verify(&path, b"a/b1", &digest), expected, "{depth} pages");
 
         let last = pages[depth - 1].len();
@@ -497,7 +529,7 @@ fn long_keys_are_compared_whole() {
         bytes.extend(b"\x61p\x19");
         bytes.extend((prefix as u16).to_be_bytes());
         bytes.extend(b"\x61t\xf6\x61v");
-        bytes.extend(link(Some(VALUE)));
+        bytes.extend(link(Some(VALUE.digest)));
         bytes
     };
     let first = [b'a'; 300];
@@ -505,7 +537,7 @@ fn long_keys_are_compared_whole() {
         let mut bytes = b"\xa4\x61k\x59\x01\x2c".to_vec();
         bytes.extend(first);
         bytes.extend(b"\x61p\x00\x61t\xf6\x61v");
-        bytes.extend(link(Some(VALUE)));
+        bytes.extend(link(Some(VALUE.digest)));
         bytes
     };
     let right = long(299, &[b'b'; 256]);
@@ -570,7 +602,7 @@ fn number_17() {
 fn heads_move() {
     let (register, mut out) = (two_pages(), [0; 200]);
     let mut lent = head(&EMPTY);
-    let length = independent::put(&EMPTY, &mut lent, b"a/b1", &VALUE, &mut out);
+    let length = independent::put(&EMPTY, &mut lent, b"a/b1", &VALUE.bytes(), &mut out);
     assert_eq!(length, Ok(64));
     assert_eq!((lent.count, lent.layer), (1, 0));
     assert_eq!(lent.digest, sha256(&out[..64]));
@@ -584,15 +616,19 @@ fn heads_move() {
         independent::remove(&register, &mut lent, b"a/b3", &mut out),
         Err(12)
     );
+    let value = VALUE.bytes();
     assert_eq!(
-        independent::join(&register, &mut lent, b"a/b3", &VALUE, &mut out[..50]),
+        independent::join(&register, &mut lent, b"a/b3", &value, &mut out[..50]),
         Err(13)
     );
     assert_eq!(lent, head(&register));
     // A value that is not greater changes nothing.
-    let length = independent::join(&register, &mut lent, b"a/b1", &[0; 32], &mut out);
-    assert_eq!(length, Ok(register.len()));
-    assert_eq!(lent, head(&register));
+    for lesser in [Value::raw(VALUE.digest), Value::dag_cbor([0; 32])] {
+        let lesser = lesser.bytes();
+        let length = independent::join(&register, &mut lent, b"a/b1", &lesser, &mut out);
+        assert_eq!(length, Ok(register.len()));
+        assert_eq!(lent, head(&register));
+    }
 
     let length = independent::remove(&register, &mut lent, b"a/b2", &mut out);
     assert_eq!(length, Ok(64));
@@ -624,9 +660,9 @@ fn order_over_two_registers() {
     assert_eq!(put(&tenth, b"ab", b"", &mut []), Err(10));
     assert_eq!(put(&EMPTY, b"ab", b"", &mut []), Err(7));
     assert_eq!(put(&EMPTY, b"a/b1", b"", &mut []), Err(11));
-    assert_eq!(put(&EMPTY, b"a/b1", &VALUE, &mut []), Err(13));
+    assert_eq!(put_value(&EMPTY, b"a/b1", &mut []), Err(13));
     assert_eq!(lookup(&tenth, b"ab"), Err(10));
-    assert_eq!(list(&tenth, 0, &mut [], &mut [0; 32]), Err(10));
+    assert_eq!(list(&tenth, 0, &mut [], &mut [0; 33]), Err(10));
 }
 
 /// Register, key, absence, output; register, first key, last key, 14, output; register, collection,
@@ -640,17 +676,17 @@ fn order_of_keys() {
         register
     };
     for call in [at_or_after, before] {
-        let number = |register: &[u8], key: &[u8]| call(register, key, &mut [], &mut [0; 32]);
+        let number = |register: &[u8], key: &[u8]| call(register, key, &mut [], &mut [0; 33]);
         assert_eq!(number(&tenth, b"ab"), Err(10));
         assert_eq!(number(&EMPTY, b"ab"), Err(7));
         assert_eq!(number(&EMPTY, b"a/b1"), Err(12));
     }
     let register = two_pages();
     assert_eq!(
-        at_or_after(&register, b"a/b2", &mut [], &mut [0; 32]),
+        at_or_after(&register, b"a/b2", &mut [], &mut [0; 33]),
         Err(13)
     );
-    assert_eq!(before(&register, b"a/b2", &mut [], &mut [0; 32]), Err(13));
+    assert_eq!(before(&register, b"a/b2", &mut [], &mut [0; 33]), Err(13));
 
     assert_eq!(run(&tenth, b"b/", b"a/", &mut []), Err(10));
     assert_eq!(run(&tenth, b"b/b", b"a/a", &mut []), Err(10));

@@ -27,7 +27,7 @@ fn digest_of_link(link: &str) -> [u8; 32] {
 
 /// Checks the root's digest of the set of these keys, all with the published value.
 fn check_published(keys: &[&str], link: &str) {
-    let value = digest_of_link(PUBLISHED_VALUE);
+    let value = Value::dag_cbor(digest_of_link(PUBLISHED_VALUE));
     let set: Set = keys
         .iter()
         .map(|key| (key.as_bytes().to_vec(), value))
@@ -77,7 +77,7 @@ fn five_records() {
 
 /// Gives keys in order with these layers, each with the value of 32 bytes `11`.
 fn set_of_layers(layers: &[u8]) -> Set {
-    let value: Value = [0x11; 32];
+    let value = Value::dag_cbor([0x11; 32]);
     let mut keys = (0..).map(|number| format!("a/b{number:06}").into_bytes());
     layers
         .iter()
@@ -95,10 +95,10 @@ fn empty_set() {
     assert_eq!(pages(&set).len(), 1);
 }
 
-/// The register of the scope's last example, byte for byte.
+/// The register of the scope's last example, byte for byte, and the same with a raw value.
 #[test]
 fn one_record_whole() {
-    let set = Set::from([(b"a/b1".to_vec(), [0x11; 32])]);
+    let set = Set::from([(b"a/b1".to_vec(), Value::dag_cbor([0x11; 32]))]);
     let mut expected = vec![
         0xa2, 0x61, 0x65, 0x81, 0xa4, 0x61, 0x6b, 0x44, 0x61, 0x2f, 0x62, 0x31, 0x61, 0x70, 0x00,
         0x61, 0x74, 0xf6, 0x61, 0x76, 0xd8, 0x2a, 0x58, 0x25, 0x00, 0x01, 0x71, 0x12, 0x20,
@@ -108,6 +108,11 @@ fn one_record_whole() {
     assert_eq!(expected.len(), 64);
     assert_eq!(table(&set), expected);
     assert_eq!(count(&expected), Ok(1));
+
+    let set = Set::from([(b"a/b1".to_vec(), Value::raw([0x11; 32]))]);
+    expected[26] = 0x55;
+    assert_eq!(table(&set), expected);
+    assert_eq!(check(&expected), Ok(head_of(&set)));
 }
 
 #[test]
@@ -159,7 +164,7 @@ fn two_keys_that_share_three_bytes() {
     let set: Set = of_layer_0
         .by_ref()
         .take(2)
-        .map(|key| (key, [7; 32]))
+        .map(|key| (key, Value::raw([7; 32])))
         .collect();
     assert_eq!(tree_of(&set).pages(), 1);
 

@@ -3,15 +3,16 @@
 
 use super::forge::{Page, EMPTY};
 use super::heads::{in_library, Heads, SurroundedHead, UNTRUE, ZEROS};
-use super::neighbours::{expect_record, Neighbour, NEIGHBOURS};
+use super::neighbours::{expect_record, listed_record, Neighbour, NEIGHBOURS};
 use super::paths::{compare_verify, expect_path};
 use super::sets::{collection_of, greatest_key, least_key, screens_of};
+use super::values::{in_answer, library_value, value_at};
 use super::writes::{
     expect_refusal, expect_refusal_with, expect_table, expect_table_and, expect_table_with, Call,
 };
 use super::{hexadecimal, Random};
-use independent::{sha256, table};
-use mijdegen::{check, list, lookup, lookup_place, slash, split, Head, Listed, Refusal, LONGEST};
+use independent::{sha256, table, ValueBytes};
+use mijdegen::{check, list, lookup, lookup_place, slash, split, Head, Refusal, LONGEST};
 use std::fmt::Debug;
 
 pub use super::c::*;
@@ -103,9 +104,9 @@ pub fn raw_lookup(register: &mut [u8], key: &mut [u8]) -> u64 {
 /// Calls the C function with an output of this length and one for the value, both of bytes 0xAA
 /// inside longer buffers. Checks that the bytes around the outputs and the register stay as they
 /// were. Gives the answer, the output and the value.
-pub fn raw_list(register: &mut [u8], n: u64, out_length: usize) -> (u64, Vec<u8>, [u8; 32]) {
+pub fn raw_list(register: &mut [u8], n: u64, out_length: usize) -> (u64, Vec<u8>, ValueBytes) {
     let mut out = Surrounded::new(out_length);
-    let mut value = Surrounded::new(32);
+    let mut value = Surrounded::new(33);
     let before = register.to_vec();
     // The pointer to the register comes from a mutable reference, so that a write to it would be
     // seen below.
@@ -122,7 +123,7 @@ pub fn raw_list(register: &mut [u8], n: u64, out_length: usize) -> (u64, Vec<u8>
         )
     };
     assert!(register == before, "the register was changed");
-    let value = value.contents("the value").try_into().expect("32 bytes");
+    let value = value.contents("the value").try_into().expect("33 bytes");
     (answer, out.contents("the output"), value)
 }
 
@@ -224,7 +225,7 @@ fn compare_refused(register: &[u8], number: u8) {
     let found = raw_lookup(&mut lent, &mut b"a/b1".to_vec());
     assert_eq!(found, u64::from(number));
     for (n, length) in [(0, 0), (5_000, 300)] {
-        let zeros = (u64::from(number), vec![0; length], [0; 32]);
+        let zeros = (u64::from(number), vec![0; length], [0; 33]);
         assert_eq!(raw_list(&mut lent, n, length), zeros, "record {n}");
     }
 
@@ -238,8 +239,8 @@ fn compare_refused(register: &[u8], number: u8) {
     expect_record(register, turn, key, register.len() % 100, Err(number));
     let calls = [
         Call::run(b"b/b1", b"a/b1"),
-        Call::put(b"ab", b""),
-        Call::join(b"a/b1", &[0x11; 31]),
+        Call::put_bytes(b"ab", b""),
+        Call::join_bytes(b"a/b1", &[0x54; 33]),
         Call::remove(b"a/b1"),
         Call::merge(b""),
         Call::difference(b""),
@@ -276,9 +277,10 @@ fn compare_accepted(register: &[u8], head: Head) {
             continue;
         };
         compare_lookup(register, key).expect("the key is present");
-        assert_eq!(lookup(register, key), Ok(*value));
+        assert_eq!(lookup(register, key), Ok(library_value(value)));
         let listed = raw_list(&mut lent, *n as u64, key.len());
-        assert_eq!(listed, (256 * key.len() as u64, key.to_vec(), **value));
+        let expected = (256 * key.len() as u64, key.to_vec(), value.bytes());
+        assert_eq!(listed, expected);
         let record: Result<_, u8> = Ok((key.as_slice(), *value));
         expect_record(register, Neighbour::AtOrAfter, key, key.len(), record);
         let record = Neighbour::Before.by_set(&set, key);
@@ -286,7 +288,7 @@ fn compare_accepted(register: &[u8], head: Head) {
     }
     assert_eq!(
         raw_list(&mut lent, count as u64, 4),
-        (0, vec![0; 4], [0; 32])
+        (0, vec![0; 4], [0; 33])
     );
     let found = compare_lookup(register, b"a/b1");
     assert_eq!(found.is_ok(), set.contains_key(&b"a/b1"[..]));
@@ -339,31 +341,25 @@ pub fn compare_slash(key: &[u8]) -> Result<usize, u8> {
 }
 
 /// Compares lookup with the independent crate, by the safe and by the C functions. Gives the
-/// place of the value.
+/// place of the value's digest.
 pub fn compare_lookup(register: &[u8], key: &[u8]) -> Result<usize, u8> {
     let expected = independent::lookup(register, key);
-    let place = lookup_place(register, key).map_err(Refusal::number);
-    assert_eq!(place, expected, "lookup of {key:?}");
     let found = raw_lookup(&mut register.to_vec(), &mut key.to_vec());
-    assert_eq!(found, answer(expected), "C lookup of {key:?}");
+    let answer = answer(expected.map(in_answer));
+    assert_eq!(found, answer, "C lookup of {key:?}");
 
     let value = lookup(register, key).map_err(Refusal::number);
-    match expected {
-        Ok(place) => {
-            let value = value.expect("the key is present");
-            assert_eq!(value[..], register[place..place + 32]);
-            // It is a part of the lent register and no copy.
-            assert_eq!(value.as_ptr(), register[place..].as_ptr());
-        }
-        Err(number) => assert_eq!(value, Err(number)),
-    }
-    expected
+    let expected_value = expected.map(|found| library_value(&value_at(register, found)));
+    assert_eq!(value, expected_value, "lookup of {key:?}");
+    let place = lookup_place(register, key).map_err(Refusal::number);
+    assert_eq!(place, expected.map(|(place, _)| place), "place of {key:?}");
+    place
 }
 
 /// Compares list with the independent crate for an output of this length, by the safe and by the
 /// C functions. Gives the key's length, or 0 past the end.
 pub fn compare_list(register: &[u8], n: u64, length: usize) -> Result<usize, u8> {
-    let (mut out, mut value) = (vec![0x55; length], [0x55; 32]);
+    let (mut out, mut value) = (vec![0xcc; length], [0xcc; 33]);
     let expected = independent::list(register, n, &mut out, &mut value);
     let found = raw_list(&mut register.to_vec(), n, length);
     assert_eq!(found.0, answer(expected), "record {n}, output {length}");
@@ -373,11 +369,11 @@ pub fn compare_list(register: &[u8], n: u64, length: usize) -> Result<usize, u8>
     let mut safe_out = vec![0xaa; length];
     let n = usize::try_from(n).expect("64 bits");
     let found = list(register, n, &mut safe_out).map_err(Refusal::number);
-    let listed = expected.map(|key_length| match key_length {
+    let record = expected.map(|key_length| match key_length {
         0 => None,
-        _ => Some(Listed { key_length, value }),
+        _ => Some(listed_record(key_length, &value)),
     });
-    assert_eq!(found, listed, "record {n}, output {length}");
+    assert_eq!(found, record, "record {n}, output {length}");
     assert!(safe_out == out, "record {n}, output {length}");
     expected
 }

@@ -4,11 +4,8 @@
 //! the two on lawful sets.
 
 use super::sets::{numbered_keys, set, set_of_layers, Kind};
-use independent::{sha256, table, tree, tree_of, Set, LONGEST};
+use independent::{sha256, table, tree, tree_of, Set, Value, LONGEST};
 use std::cell::OnceCell;
-
-/// The nine bytes with which each link begins.
-pub const LINK: &[u8; 9] = b"\xd8\x2a\x58\x25\x00\x01\x71\x12\x20";
 
 /// The empty register.
 pub const EMPTY: [u8; 7] = [0xa2, 0x61, 0x65, 0x80, 0x61, 0x6c, 0xf6];
@@ -21,6 +18,13 @@ pub fn one_record() -> Vec<u8> {
     ];
     register.extend([0x11; 32]);
     register.extend([0x61, 0x6c, 0xf6]);
+    register
+}
+
+/// The same register with the codec of a raw file.
+pub fn one_drawing() -> Vec<u8> {
+    let mut register = one_record();
+    register[26] = 0x55;
     register
 }
 
@@ -57,7 +61,7 @@ pub struct Entry {
     pub prefix: usize,
     pub remainder: Vec<u8>,
     pub after: Option<Link>,
-    pub value: [u8; 32],
+    pub value: Value,
 }
 
 /// A link to a page.
@@ -103,8 +107,8 @@ impl Page {
 
     /// Gives the pages of the set.
     pub fn of_set(set: &Set) -> Page {
-        fn convert(page: &tree::Page<(&[u8], &[u8; 32])>) -> Page {
-            let gap = |gap: &tree::Gap<(&[u8], &[u8; 32])>| {
+        fn convert(page: &tree::Page<(&[u8], &Value)>) -> Page {
+            let gap = |gap: &tree::Gap<(&[u8], &Value)>| {
                 let page = gap.as_ref()?;
                 link_to(convert(page))
             };
@@ -214,7 +218,7 @@ impl Page {
                 &entry.remainder,
                 &head(0x00, entry.prefix),
                 &after,
-                &entry.value,
+                &link_with(entry.value.codec.byte(), &entry.value.digest),
             ));
         }
         let bytes = page_bytes(&head(0x80, self.entries.len()), &entries, &left);
@@ -284,7 +288,7 @@ impl Entry {
             prefix: 0,
             remainder: key.to_vec(),
             after: None,
-            value: [0x11; 32],
+            value: Value::dag_cbor([0x11; 32]),
         }
     }
 }
@@ -311,18 +315,38 @@ pub fn head(kind: u8, number: usize) -> Vec<u8> {
     }
 }
 
-/// Writes a link.
+/// Writes a link to a page, or to a record block.
 pub fn link_bytes(digest: &[u8; 32]) -> Vec<u8> {
-    [&LINK[..], digest].concat()
+    link_with(0x71, digest)
 }
 
-/// Writes an entry. The numbers and the link of the gap after it are given as bytes.
+/// Writes a link with this byte in the place of the codec.
+pub fn link_with(codec: u8, digest: &[u8; 32]) -> Vec<u8> {
+    [
+        b"\xd8\x2a\x58\x25\x00\x01",
+        &[codec][..],
+        b"\x12\x20",
+        digest,
+    ]
+    .concat()
+}
+
+/// Gives the places of the codecs in all links of a register or a path: to pages and of values.
+pub fn codec_places(bytes: &[u8]) -> Vec<usize> {
+    let is_link = |part: &[u8]| part.starts_with(b"\xd8\x2a\x58\x25\x00\x01");
+    let links = bytes.windows(7).enumerate();
+    let links = links.filter(|(_, part)| is_link(part));
+    links.map(|(place, _)| place + 6).collect()
+}
+
+/// Writes an entry. The numbers, the link of the gap after it and that of the value are given as
+/// bytes.
 pub fn entry_bytes(
     length: &[u8],
     remainder: &[u8],
     prefix: &[u8],
     after: &[u8],
-    value: &[u8; 32],
+    value: &[u8],
 ) -> Vec<u8> {
     [
         b"\xa4\x61k",
@@ -333,7 +357,6 @@ pub fn entry_bytes(
         b"\x61t",
         after,
         b"\x61v",
-        LINK,
         value,
     ]
     .concat()

@@ -4,12 +4,13 @@
 //! that is lent and the length of the output, and nothing that the library answered or wrote. It
 //! judges the head against its own set.
 
-use super::forge::{faulty_registers, EMPTY};
+use super::forge::{codec_places, faulty_registers, EMPTY};
 use super::heads::{draw_untrue, head_of, in_library, Heads};
 use super::sets::{self, keys_near, part, set, unlawful_keys, Kind};
+use super::values::other_codec;
 use super::writes::{expect_outcome, Call};
 use super::Random;
-use independent::{result_table, table, Set, LONGEST};
+use independent::{result_table, table, Set, Value, LONGEST};
 use mijdegen::Head;
 
 /// How often each number was answered, number 0 standing for the calls that were done.
@@ -159,8 +160,8 @@ impl Source {
         let key = self.key(random, set);
         match kind {
             2 | 3 => Call::remove(&key),
-            4 | 5 => Call::join(&key, &drawn_value(random)),
-            _ => Call::put(&key, &drawn_value(random)),
+            4 | 5 => Call::join_bytes(&key, &drawn_value(random)),
+            _ => Call::put_bytes(&key, &drawn_value(random)),
         }
     }
 
@@ -212,8 +213,9 @@ pub fn full_set(kind: Kind) -> (Set, Source) {
     (start, Source::new(part(&all, moving).into_keys()))
 }
 
-/// Changes a byte of the register, cuts it or adds a byte. Sometimes the byte is one of a value
-/// in the root, and the register stays accepted. What was cut to nothing stays so.
+/// Changes a byte of the register, gives a link the other codec, cuts the register or adds a byte.
+/// Sometimes the byte is one of a value in the root, and the register stays accepted. What was cut
+/// to nothing stays so.
 pub fn damaged(random: &mut Random, mut register: Vec<u8>) -> Vec<u8> {
     if register.is_empty() {
         return register;
@@ -222,31 +224,47 @@ pub fn damaged(random: &mut Random, mut register: Vec<u8>) -> Vec<u8> {
     match random.below(8) {
         0 => register.truncate(place),
         1 => register.push(random.next() as u8),
+        2 => {
+            // The first codec from the place on, or the byte there where none follows.
+            let codecs = codec_places(&register);
+            let codec = codecs.into_iter().find(|codec| *codec >= place);
+            register[codec.unwrap_or(place)] ^= 0x55 ^ 0x71;
+        }
         _ => register[place] ^= 1 << random.below(8),
     }
     register
 }
 
-/// Draws a value, or one time in eight bytes of another length.
+/// Draws the bytes of a value, or one time in eight others: of another length, or with another byte
+/// in the place of the codec.
 pub fn drawn_value(random: &mut Random) -> Vec<u8> {
-    let value = few_values(random);
-    match random.below(8) {
+    let mut value = few_values(random).bytes();
+    match random.below(16) {
         0 => {
-            let length = *random.one_of(&[0, 1, 31, 33, 64, 300]);
+            let length = *random.one_of(&[0, 1, 31, 32, 34, 64, 300]);
             value.into_iter().cycle().take(length).collect()
+        }
+        1 => {
+            let any = random.next() as u8;
+            value[0] = *random.one_of(&[0x00, 0x54, 0x56, 0x70, 0x72, any]);
+            value.to_vec()
         }
         _ => value.to_vec(),
     }
 }
 
-/// Draws one of few values, or any. Two of them often differ only late, or not at all.
-fn few_values(random: &mut Random) -> [u8; 32] {
-    let mut value = [0x80; 32];
+/// Draws one of few values, or any. Two of them often differ only late, or in the codec alone, or
+/// not at all.
+fn few_values(random: &mut Random) -> Value {
+    let mut value = Value::dag_cbor([0x80; 32]);
     match random.below(4) {
         0 => value = sets::value(random),
-        1 => value[0] = random.below(256) as u8,
-        2 => value[31] = random.below(256) as u8,
+        1 => value.digest[0] = random.below(256) as u8,
+        2 => value.digest[31] = random.below(256) as u8,
         _ => {}
     }
-    value
+    match random.below(2) {
+        0 => other_codec(&value),
+        _ => value,
+    }
 }

@@ -13,6 +13,7 @@ pub mod neighbours;
 pub mod paths;
 pub mod repository;
 pub mod sets;
+pub mod values;
 pub mod writes;
 
 // The module `c` takes it from here, as it does from the crate.

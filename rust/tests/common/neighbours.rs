@@ -2,7 +2,8 @@
 //! crate `independent`.
 
 use super::calls::{answer, mijdegen_at_or_after, mijdegen_before, shown, Surrounded};
-use independent::{lawful, Set};
+use super::values::library_value;
+use independent::{lawful, Set, Value, ValueBytes};
 use mijdegen::{at_or_after, before, Listed, Refusal};
 use std::ops::Bound::{Excluded, Included, Unbounded};
 
@@ -19,7 +20,7 @@ pub enum Neighbour {
 pub const NEIGHBOURS: [Neighbour; 2] = [Neighbour::AtOrAfter, Neighbour::Before];
 
 /// The key and the value of a record in a set.
-pub type Record<'a> = (&'a [u8], &'a [u8; 32]);
+pub type Record<'a> = (&'a [u8], &'a Value);
 
 impl Neighbour {
     /// Gives the record by the set: 7 for an unlawful key, 12 where there is none.
@@ -45,13 +46,13 @@ impl Neighbour {
     /// Calls the C function with an output of this length and one for the value, both of bytes
     /// 0xAA inside longer buffers. Checks that the bytes around the outputs and both inputs stay
     /// as they were. Gives the answer, the output and the value.
-    pub fn raw(self, register: &[u8], key: &[u8], out_length: usize) -> (u64, Vec<u8>, [u8; 32]) {
+    pub fn raw(self, register: &[u8], key: &[u8], out_length: usize) -> (u64, Vec<u8>, ValueBytes) {
         let call = match self {
             Neighbour::AtOrAfter => mijdegen_at_or_after,
             Neighbour::Before => mijdegen_before,
         };
         let mut out = Surrounded::new(out_length);
-        let mut value = Surrounded::new(32);
+        let mut value = Surrounded::new(33);
         let (mut lent, mut sought) = (register.to_vec(), key.to_vec());
         // The pointers to the inputs come from mutable references, so that a write to them would
         // be seen below.
@@ -70,7 +71,7 @@ impl Neighbour {
         };
         assert!(lent == register, "the register was changed");
         assert!(sought == key, "the key was changed");
-        let value = value.contents("the value").try_into().expect("32 bytes");
+        let value = value.contents("the value").try_into().expect("33 bytes");
         (answer, out.contents("the output"), value)
     }
 
@@ -80,7 +81,7 @@ impl Neighbour {
         register: &[u8],
         key: &[u8],
         out: &mut [u8],
-        value: &mut [u8; 32],
+        value: &mut ValueBytes,
     ) -> Result<usize, u8> {
         match self {
             Neighbour::AtOrAfter => independent::at_or_after(register, key, out, value),
@@ -89,14 +90,15 @@ impl Neighbour {
     }
 }
 
-/// Expects the answer and both outputs whole, by the safe and by the C function.
+/// Expects the answer and both outputs whole, by the safe and by the C function. The value is zeros
+/// where the call is refused.
 pub fn expect_neighbour(
     register: &[u8],
     call: Neighbour,
     key: &[u8],
     expected: Result<usize, u8>,
     output: &[u8],
-    value: &[u8; 32],
+    value: &ValueBytes,
 ) {
     let length = output.len();
     let told = || {
@@ -111,12 +113,19 @@ pub fn expect_neighbour(
 
     let mut out = vec![0xaa; length];
     let found = call.safe(register, key, &mut out).map_err(Refusal::number);
-    let expected = expected.map(|key_length| Listed {
-        key_length,
-        value: *value,
-    });
+    let expected = expected.map(|key_length| listed_record(key_length, value));
     assert_eq!(found, expected, "{}", told());
     assert!(out == output, "output: {}", told());
+}
+
+/// Gives the record that the safe function gives, from the length of its key and the bytes of its
+/// value.
+pub fn listed_record(key_length: usize, value: &ValueBytes) -> Listed {
+    let value = Value::of_bytes(value).expect("a codec and a digest");
+    Listed {
+        key_length,
+        value: library_value(&value),
+    }
 }
 
 /// Expects the record, or the number that is due on the register and the key, in an output of
@@ -130,11 +139,11 @@ pub fn expect_record(
 ) {
     let mut output = vec![0; out_length];
     let (expected, value) = match record {
-        Err(number) => (Err(number), [0; 32]),
-        Ok((found, _)) if found.len() > out_length => (Err(13), [0; 32]),
+        Err(number) => (Err(number), [0; 33]),
+        Ok((found, _)) if found.len() > out_length => (Err(13), [0; 33]),
         Ok((found, value)) => {
             output[..found.len()].copy_from_slice(found);
-            (Ok(found.len()), *value)
+            (Ok(found.len()), value.bytes())
         }
     };
     expect_neighbour(register, call, key, expected, &output, &value);
@@ -148,7 +157,7 @@ pub fn compare_neighbour(
     key: &[u8],
     out_length: usize,
 ) -> Result<usize, u8> {
-    let (mut output, mut value) = (vec![0x55; out_length], [0x55; 32]);
+    let (mut output, mut value) = (vec![0xcc; out_length], [0xcc; 33]);
     let expected = call.independent(register, key, &mut output, &mut value);
     expect_neighbour(register, call, key, expected, &output, &value);
     expected

@@ -3,13 +3,14 @@
 
 use super::calls::{answer, mijdegen_verify, shown};
 use super::forge::Written;
+use super::values::{in_answer, library_value, value_at, Found};
 use super::writes::{expect_table, Call};
-use independent::Set;
+use independent::{Set, Value};
 use mijdegen::{verify, Presence, Refusal};
 
-/// What a path says of a key: the place of the value, or none where the key is absent, or the
+/// What a path says of a key: where the value is found, or none where the key is absent, or the
 /// number that is due.
-pub type Verdict = Result<Option<usize>, u8>;
+pub type Verdict = Result<Option<Found>, u8>;
 
 /// Calls the C function and checks that the inputs stay as they were. Gives the answer.
 pub fn raw_verify(path: &[u8], key: &[u8], root: &[u8]) -> u64 {
@@ -35,19 +36,15 @@ pub fn expect_verdict(path: &[u8], key: &[u8], root: &[u8], expected: Verdict) {
         format!("key {}, root {root}, on {path}", shown(key))
     };
     let found = raw_verify(path, key, root);
-    let place = expected.map(|place| place.unwrap_or(0));
-    assert_eq!(found, answer(place), "C function: {}", told());
+    let value = expected.map(|verdict| verdict.map_or(0, in_answer));
+    assert_eq!(found, answer(value), "C function: {}", told());
 
     let found = verify(path, key, root).map_err(Refusal::number);
-    let presence = expected.map(|place| match place {
-        Some(place) => Presence::Present(path[place..].first_chunk().expect("32 bytes")),
+    let presence = expected.map(|verdict| match verdict {
+        Some(found) => Presence::Present(library_value(&value_at(path, found))),
         None => Presence::Absent,
     });
     assert_eq!(found, presence, "{}", told());
-    if let (Ok(Presence::Present(one)), Ok(Presence::Present(other))) = (found, presence) {
-        // It is a part of the lent path and no copy.
-        assert_eq!(one.as_ptr(), other.as_ptr());
-    }
 }
 
 /// Compares verify with the independent crate, by the safe and by the C function. Gives the
@@ -60,15 +57,10 @@ pub fn compare_verify(path: &[u8], key: &[u8], root: &[u8]) -> Verdict {
 
 /// Compares verify with the independent crate, and expects that the key has the value, or is absent
 /// where there is none.
-pub fn expect_presence(path: &[u8], key: &[u8], root: &[u8], value: Option<&[u8; 32]>) {
+pub fn expect_presence(path: &[u8], key: &[u8], root: &[u8], value: Option<&Value>) {
     let verdict = compare_verify(path, key, root);
-    let found = verdict.map(|place| place.map(|place| &path[place..place + 32]));
-    assert_eq!(
-        found,
-        Ok(value.map(<[u8; 32]>::as_slice)),
-        "{}",
-        shown(path)
-    );
+    let found = verdict.map(|verdict| verdict.map(|found| value_at(path, found)));
+    assert_eq!(found, Ok(value.copied()), "{}", shown(path));
 }
 
 /// Expects the path of a lawful key by the pages of the set, in an output that is just long enough,

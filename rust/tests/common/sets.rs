@@ -1,7 +1,7 @@
 //! Sets of records of several kinds.
 
 use super::Random;
-use independent::{lawful, layer, Set, LONGEST, LONGEST_KEY};
+use independent::{lawful, layer, Set, Value, LONGEST, LONGEST_KEY};
 use mijdegen::PER_SCREEN;
 use std::collections::BTreeSet;
 
@@ -74,8 +74,8 @@ pub const NEAR_COLLECTIONS: [&[u8]; 6] = [b"a", b"ab", b"a.b", b"a-b", b"a0", b"
 /// The bytes that may stand beside the slash, in their order.
 const PLAIN: &[u8] = b"-.0123456789:ABCDEFGHIJKLMNOPQRSTUVWXYZ_abcdefghijklmnopqrstuvwxyz~";
 
-/// Gives a set of so many records of this kind, the same in every run. The values are random, so
-/// no two of them are the same.
+/// Gives a set of so many records of this kind, the same in every run. The values are random and of
+/// both codecs, and no two of them are the same.
 pub fn set(kind: Kind, count: usize) -> Set {
     let mut random = Random::new(1 + kind as u64);
     let mut set = Set::new();
@@ -129,7 +129,7 @@ pub fn part(set: &Set, wanted: impl Fn(usize) -> bool) -> Set {
 pub fn small_sets() -> [Set; 10] {
     [
         Set::new(),
-        Set::from([(b"a/b1".to_vec(), [0x11; 32])]),
+        Set::from([(b"a/b1".to_vec(), Value::dag_cbor([0x11; 32]))]),
         set_of_layers(&[1, 1]),
         set_of_layers(&[0, 2]),
         set_of_layers(&[0, 1, 0]),
@@ -194,11 +194,11 @@ pub fn screens_of(set: &Set, collection: &[u8]) -> Vec<Set> {
 
 /// Gives the trees that are published with the format, each with the digest of its root page.
 pub fn published_trees() -> [(Set, &'static str); 3] {
-    let value = [
+    let value = Value::dag_cbor([
         0x9d, 0x15, 0x6b, 0xc3, 0xf3, 0xa5, 0x20, 0x06, 0x62, 0x52, 0xc7, 0x08, 0xa9, 0x36, 0x1f,
         0xd3, 0xd0, 0x89, 0x22, 0x38, 0x42, 0x50, 0x0e, 0x37, 0x13, 0xd4, 0x04, 0xfd, 0xcc, 0xb3,
         0x3c, 0xef,
-    ];
+    ]);
     let set = |names: &[&str]| {
         names
             .iter()
@@ -402,9 +402,21 @@ pub fn rows_of_few_layers() -> Vec<Vec<u8>> {
     rows
 }
 
-/// Gives a random value.
-pub fn value(random: &mut Random) -> [u8; 32] {
-    random.bytes(32).try_into().expect("32 bytes")
+/// Gives a random value. The last bit of its digest decides the codec.
+pub fn value(random: &mut Random) -> Value {
+    let digest: [u8; 32] = random.bytes(32).try_into().expect("32 bytes");
+    match digest[31] % 2 {
+        0 => Value::raw(digest),
+        _ => Value::dag_cbor(digest),
+    }
+}
+
+/// Gives the set with all values under one codec: `Value::raw` or `Value::dag_cbor` of the digests.
+pub fn under(value: fn([u8; 32]) -> Value, mut set: Set) -> Set {
+    for kept in set.values_mut() {
+        *kept = value(kept.digest);
+    }
+    set
 }
 
 /// Gives keys in order with these layers, all of one length, each with a random value.

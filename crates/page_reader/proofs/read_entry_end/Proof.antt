@@ -13,7 +13,6 @@ read-entry-end-spec =
     (λ c. search needs)
     (λ c. search needs)
     (λ c. search needs)
-    (λ c. search needs)
     (λ c κs. search needs)
     (λ c. search needs)
     (λ c. search (needs, empty-gap-there))

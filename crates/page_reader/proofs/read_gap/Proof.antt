@@ -14,7 +14,7 @@ read-gap-spec =
     (λ c. search (needs, gap-null))
     (λ c κs. search needs)
     (λ c. search needs)
-    (λ c. omega (arith, digest-within _ _ _ _ _ _ (c .before .before .before .read-link .ensures) (c .before .digest .given .1)))
+    (λ c. omega (arith, digest-within _ _ _ _ _ _ _ (c .before .before .before .read-link .ensures) (c .before .digest .given .1)))
     (λ c. search needs)
     (λ c. search (needs, gap-there))
     (λ c. search (needs, gap-stops)))

@@ -15,7 +15,7 @@ read-gap-and-value-spec =
     (λ c. search needs)
     (λ c κs. search needs)
     (λ c. search needs)
-    (λ c. omega (arith, digest-within _ _ _ _ _ _ (c .before .before .before .read-link-after .ensures) (c .before .value .given .1)))
+    (λ c. omega (arith, digest-within _ _ _ _ _ _ _ (c .before .before .before .read-value-after .ensures) (c .before .value .given .1)))
     (λ c. search needs)
     (λ c. search needs)
     (λ c. search (needs, end-there))

@@ -36,7 +36,7 @@ returns c =
     let w = c .before .before .before .before .before .before .before .before .before .write-page-start in
     let e = c .before .before .before .before .write-entry in
     let y = c .before .before .before .before .before .before .before .before .before .before .before .layer-of in
-    rw (c .second-word .ensures) (single-is (a .key .now) (a .value) (a .page .now) (c .before .before .before .before .before .before .before .before .before .before .before .before .before .before .pre .0) (search needs) (w .result) (w .ensures .1) (w .last .0) (e .last .0) (w .ensures .0) (e .ensures .0) (y .result) (c .before .record-word .result) (y .ensures) (c .before .record-word .ensures))
+    rw (c .second-word .ensures) (single-is (a .key .now) (a .value) (a .page .now) (c .before .before .before .before .before .before .before .before .before .before .before .before .before .before .pre .0) (c .before .before .before .before .before .before .before .before .before .before .before .before .before .before .pre .1) (w .result) (w .ensures .1) (w .last .0) (e .last .0) (w .ensures .0) (e .ensures .0) (y .result) (c .before .record-word .result) (y .ensures) (c .before .record-word .ensures))
 
 pub single-spec : {M : Type 1} → statement M
 single-spec =

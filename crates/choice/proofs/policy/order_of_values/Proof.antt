@@ -6,7 +6,9 @@ use Rattle.choice.proofs.policy.order_of_values.Tie as tie
 
 returns : tie.Need-returns
 unfolding valueAt
-returns c = c .compare .ensures ∙ rw (c .before .before .before .before .value-of .ensures (c .before .before .before .before .before .before .before .pre .0), c .before .before .before .value-of2 .ensures (c .before .before .before .before .before .before .before .pre .1))
+returns c =
+    let pre = c .before .before .before .before .before .pre in
+    c .compare-values .ensures ∙ rw (c .before .before .value-of .ensures (pre .0), c .before .value-of2 .ensures (pre .1))
 
 pub order-of-values-spec : {M : Type 1} → statement M
 order-of-values-spec =
@@ -14,7 +16,5 @@ order-of-values-spec =
     (tie.spec
     (λ c κs. search needs)
     (λ c κs. search needs)
-    (λ c. search needs)
-    (λ c. search needs)
     (λ c κs. search needs)
     returns)

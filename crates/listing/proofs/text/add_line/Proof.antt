@@ -11,9 +11,9 @@ enum-told c = search needs
 
 returns : tie.Need-returns
 returns c =
-    let f = c .before .before .before .before .before .before .before .before .before .before .before .before .before .before .before .before .before .before .before .before .recall in
+    let f = c .before .before .before .before .before .before .before .before .before .before .before .before .before .before .before .before .before .before .before .before .before .before .recall in
     let size : f .result .from + f .result .size - f .result .from ≡ f .result .size = omega arith in
-    whole-line (f .ensures) size (c .before .before .before .before .before .before .before .before .before .before .before .add .ensures) (c .before .before .before .before .before .before .before .next .given .1) (c .before .before .before .before .before .line-end .ensures) (c .before .before .add2 .ensures)
+    whole-line (f .ensures) size (c .before .before .before .before .before .before .before .before .before .before .before .before .before .add .ensures) (c .before .before .before .before .before .before .before .before .before .next .given .1) (c .before .before .before .before .before .before .before .value-at .ensures) (c .before .before .before .before .before .line-end .ensures) (c .before .before .add2 .ensures)
 
 returns-2 : tie.Need-returns-2
 returns-2 c =
@@ -29,6 +29,8 @@ add-line-spec =
     (λ c. search needs)
     (λ c. search needs)
     (λ c. search needs)
+    (λ c. search needs)
+    (λ c κs. search needs)
     (λ c. search needs)
     (λ c κs. search needs)
     (λ c. search needs)

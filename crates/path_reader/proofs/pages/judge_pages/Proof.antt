@@ -28,7 +28,8 @@ judge-pages-spec =
     loop-holds
     (λ c κs. search needs)
     (λ c. search needs)
-    (λ c κs. (search needs, search (needs, value-within)))
+    (λ c κs. search needs)
+    (λ c κs. search (needs, value-within))
     (λ c. search (needs, path-present))
     (λ c. search needs)
     (λ c κs. search needs)

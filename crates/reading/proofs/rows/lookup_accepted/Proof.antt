@@ -22,7 +22,7 @@ cast-t10 c =
 
 returns-2 : tie.Need-returns-2
 returns-2 c =
-    answer-found (c .before .before .before .before .before .before .before .before .before .before .pre) _ _ (c .before .before .before .search .ensures .0) (slash-done _ _ (sym (c .before .before .before .before .before .before .slash .ensures) ∙ c .before .before .before .before .enum-told .given .1)) _ _ (c .before .place .given .1)
+    answer-found (c .before .before .before .before .before .before .before .before .before .before .before .pre) _ _ (c .before .before .before .before .search .ensures .0) (slash-done _ _ (sym (c .before .before .before .before .before .before .before .slash .ensures) ∙ c .before .before .before .before .before .enum-told .given .1)) _ _ _ (c .before .before .place .given .1) (c .codec-at .ensures)
 
 returns-3 : tie.Need-returns-3
 returns-3 c =
@@ -39,6 +39,8 @@ lookup-accepted-spec =
     (λ c κs. search needs)
     (λ c. search needs)
     cast-t10
+    (λ c κs. search needs)
+    (λ c. search needs)
     (λ c. search needs)
     returns-2
     returns-3)

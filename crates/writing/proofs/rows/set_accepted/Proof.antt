@@ -5,7 +5,7 @@ use Rattle.digests.proofs.Labels.{row-labelled, none-labelled}
 use Rattle.reading.proofs.Verdicts.{accepting}
 use Rattle.writing.proofs.Writing.{due-refused, due-done, tested-key}
 use Rattle.writing.proofs.Moving.{gives-refusal, gives-same, lent-digest, set-stopped}
-use Rattle.writing.proofs.Calls.{row-moved, chosen-row, chosen-many, set-done}
+use Rattle.writing.proofs.Calls.{row-moved, chosen-row, chosen-many, copied-value, set-done}
 use Rattle.writing.proofs.Setting.{single-to-set}
 use borrow.Author.Needs.{needs}
 use Rattle.writing.proofs.rows.set_accepted.Statement.{statement}
@@ -21,7 +21,8 @@ enum-told c = search needs
 
 single-requires : tie.Need-single-requires
 single-requires c κs =
-    (tested-key _ _ (due-done _ (c .before .before .before .before .test-record .ensures) (c .before .before .enum-told .given .1)), search needs)
+    let tested = due-done _ (c .before .before .before .before .test-record .ensures) (c .before .before .enum-told .given .1) in
+    (tested-key _ _ tested, copied-value _ _ _ tested (c .before .as-value .ensures), search needs)
 
 slice-aggregate-root : tie.Need-slice-aggregate-root
 slice-aggregate-root c = sym (length-take-le (c .before .root-end .result) (c .before .before .before .before .before .before .before .before .before .before .before .before .before .before .before .before .before .args .register .now) (c .before .root-end .ensures .within))
@@ -43,7 +44,7 @@ returns-2 c =
     let start = c .before .before .before .before .before .before .before .before .before .before .before .before .before .before .before .before .before .before .before .before .before .before .before .before .before .before .before .before .before .before .before in
     let a = accepting (λ i h. omega (arith, c .before .before .before .before .before .before .before .before .before .before .before .before .before .before .before .before .before .before .before .before .before .before .before .before .before .before .before .before .before .before .shared-slice-known .given i)) (c .before .before .before .before .before .before .before .before .before .before .before .before .before .before .before .before .before .before .before .before .before .before .before .before .before .before .before .before .before .before .before .pre .0) in
     let tested = due-done _ (c .before .before .before .before .before .before .before .before .before .before .before .before .before .before .before .before .before .before .before .before .before .before .before .before .test-record .ensures) (c .before .before .before .before .before .before .before .before .before .before .before .before .before .before .before .before .before .before .before .before .before .before .enum-told .given .1) in
-    let done = set-done a (start .args .head) (start .pre .2) (start .args .greater) _ _ _ tested (c .before .before .before .before .before .before .before .before .before .before .before .before .before .before .before .before .before .before .before .before .before .value-at .ensures) _ _ (c .before .before .before .before .before .before .before .before .before .before .before .before .before .before .before .before .before .before .before .single .ensures) _ in
+    let done = set-done a (start .args .head) (start .pre .2) (start .args .greater) _ _ _ tested (c .before .before .before .before .before .before .before .before .before .before .before .before .before .before .before .before .before .before .before .before .before .as-value .ensures) _ _ (c .before .before .before .before .before .before .before .before .before .before .before .before .before .before .before .before .before .before .before .single .ensures) _ in
     gives-same _ _ _ _ done (row-moved (chosen-row _ _ _ _ _ (c .before .before .before .before .before .before .before .before .before .before .before .set-word .ensures) (c .before .before .before .before .before .before .before .m .given .1)) _ _ _ _ (c .before .before .write-headed .ensures))
 
 returns-3 : tie.Need-returns-3
@@ -52,7 +53,7 @@ returns-3 c =
     let a = accepting (λ i h. omega (arith, c .before .before .before .before .before .before .before .before .before .before .before .before .before .before .before .before .before .before .before .before .before .before .before .before .before .before .before .shared-slice-known .given i)) (c .before .before .before .before .before .before .before .before .before .before .before .before .before .before .before .before .before .before .before .before .before .before .before .before .before .before .before .before .pre .0) in
     let tested = due-done _ (c .before .before .before .before .before .before .before .before .before .before .before .before .before .before .before .before .before .before .before .before .before .test-record .ensures) (c .before .before .before .before .before .before .before .before .before .before .before .before .before .before .before .before .before .before .before .enum-told .given .1) in
     let many = chosen-many _ _ _ _ _ (c .before .before .before .before .before .before .before .before .set-word .ensures) _ (c .before .before .before .before .enum-told2 .given .1) in
-    let done = set-done a (start .args .head) (start .pre .2) (start .args .greater) _ _ _ tested (c .before .before .before .before .before .before .before .before .before .before .before .before .before .before .before .before .before .before .value-at .ensures) _ _ (c .before .before .before .before .before .before .before .before .before .before .before .before .before .before .before .before .single .ensures) _ in
+    let done = set-done a (start .args .head) (start .pre .2) (start .args .greater) _ _ _ tested (c .before .before .before .before .before .before .before .before .before .before .before .before .before .before .before .before .before .before .as-value .ensures) _ _ (c .before .before .before .before .before .before .before .before .before .before .before .before .before .before .before .before .single .ensures) _ in
     gives-refusal _ _ _ _ (sym done ∙ many) (c .before .before .refuse-headed2 .ensures)
 
 pub set-accepted-spec : {M : Type 1} → statement M

@@ -1,10 +1,10 @@
 use borrow.Author.Needs.{needs}
 use Rattle.page_reader.proofs.Places.{link-after, stop-after}
-use Rattle.page_reader.proofs.read_link_after.Statement.{statement}
-use Rattle.page_reader.proofs.read_link_after.Tie as tie
+use Rattle.page_reader.proofs.read_value_after.Statement.{statement}
+use Rattle.page_reader.proofs.read_value_after.Tie as tie
 
-pub read-link-after-spec : {M : Type 1} → statement M
-read-link-after-spec =
+pub read-value-after-spec : {M : Type 1} → statement M
+read-value-after-spec =
     tie.close
     (tie.spec
     (λ c κs. search needs)
