@@ -1,50 +1,30 @@
 -- The order of two values, from that of their digests and that of their codecs.
-use Prim.Native.Nat.{ℕ, _-_, _≤_, _<_}
-use mathlib.Core.Path.{_≡_, sym, ap₂, _∙_}
+use Prim.Native.Nat.{ℕ, _-_}
+use mathlib.Core.Path.{_≡_, sym, _∙_}
 use mathlib.Core.Bool.{true}
-use mathlib.Core.List.{List, [], _∷_}
+use mathlib.Core.List.{List}
 use native.Mathlib.Omega.{arith}
-use lib.ListN.{length, take, drop, getD, length-drop}
-use lib.Seq.{take-all}
-use lib.Dec.{ltb}
-use borrow.Author.Tests.{ltb-false, lt-ltb, le-ltb}
-use borrow.Table.Steps.{cases}
+use lib.ListN.{length, take, drop, length-drop}
+use lib.Seq.{take-all, length-take-le}
 use Rattle.value.specs.Value.{valueDigest}
-use Rattle.key.specs.Key.{less, order}
+use Rattle.key.specs.Key.{order}
 use Rattle.key.specs.declared.Order.{Order}
 use Rattle.key.specs.declared.Order.the-variants.{Less, Equal, Greater}
-use Rattle.key.proofs.Laws.{order-less, order-equal, order-greater}
+use Rattle.key.proofs.Laws.{less-connected, less-order, equal-order, greater-order, order-less, order-equal, order-greater}
 use Rattle.promises.specs.Map.{lessValue}
-use Rattle.promises.proofs.ValueOrder.{lesser-digest, lesser-codec, value-asymmetric, value-same}
-use Rattle.choice.specs.Choice.{orderOfBytes, valueOrder}
+use Rattle.promises.proofs.ValueOrder.{same-parts, lesser-digest, lesser-codec, value-asymmetric, value-same}
+use Rattle.choice.specs.Choice.{valueOrder}
 
--- ---- two bytes
-module _ (a b : ℕ) where
-  pub byte-less : a < b → Less ≡ orderOfBytes a b
-  byte-less h = rw (lt-ltb a b h)
+pub first-taken : (v : List ℕ) → length v ≡ 33 → 1 ≡ length (take 1 v)
+first-taken v n = sym (length-take-le 1 v (omega arith))
 
-  pub byte-greater : b ≤ a → b < a → Greater ≡ orderOfBytes a b
-  byte-greater h k = rw (le-ltb a b h, lt-ltb b a k)
-
-  pub byte-equal : b ≤ a → a ≤ b → Equal ≡ orderOfBytes a b
-  byte-equal h k = rw (le-ltb a b h, le-ltb b a k)
-
--- ---- two values
 lesser-value : (v w : List ℕ) → lessValue v w ≡ true → (valueOrder v w ≡ Less) × (valueOrder w v ≡ Greater)
 unfolding valueOrder
 lesser-value v w h = (rw h, rw (value-asymmetric v w h, h))
 
--- with equal digests the codecs decide
-same-digests : (c d : ℕ) (l m : List ℕ) → l ≡ m → orderOfBytes c d ≡ valueOrder (c ∷ l) (d ∷ m)
-unfolding less valueOrder
-same-digests c d l m e =
-    cases (ltb c d)
-    (λ h. rw h (sym (lesser-value (c ∷ l) (d ∷ m) (lesser-codec (c ∷ l) (d ∷ m) e (rw h)) .0)))
-    (λ h. cases (ltb d c)
-    (λ k. rw (h, k) (sym (lesser-value (d ∷ m) (c ∷ l) (lesser-codec (d ∷ m) (c ∷ l) (sym e) (rw k)) .1)))
-    (λ k.
-    let same : c ∷ l ≡ d ∷ m = ap₂ (λ (x : ℕ) (n : List ℕ). x ∷ n) (omega (arith, ltb-false c d h, ltb-false d c k)) e in
-    rw (h, k, value-same (c ∷ l) (d ∷ m) same, value-same (d ∷ m) (c ∷ l) (sym same))))
+same-value : (v w : List ℕ) → v ≡ w → valueOrder v w ≡ Equal
+unfolding valueOrder
+same-value v w e = rw (value-same v w e, value-same w v (sym e))
 
 module _ (v w : List ℕ) (n : length v ≡ 33) (m : length w ≡ 33) (o : Order) (compared : o ≡ order (take (33 - 1) (drop 1 v)) (take (33 - 1) (drop 1 w))) where
   -- what is compared are the digests
@@ -57,9 +37,11 @@ module _ (v w : List ℕ) (n : length v ≡ 33) (m : length w ≡ 33) (o : Order
   pub values-greater : o ≡ Greater → Greater ≡ valueOrder v w
   values-greater e = sym (lesser-value w v (lesser-digest w v (order-greater (valueDigest v) (valueDigest w) (digests ∙ e))) .1)
 
-pub codecs-decide : (v w : List ℕ) → length v ≡ 33 → length w ≡ 33 → (o : Order) → o ≡ order (take (33 - 1) (drop 1 v)) (take (33 - 1) (drop 1 w))
-    → o ≡ Equal → (r : Order) → r ≡ orderOfBytes (getD v 0 0) (getD w 0 0) → r ≡ valueOrder v w
-codecs-decide [] w n m o compared e r f = absurd (omega arith)
-codecs-decide (c ∷ l) [] n m o compared e r f = absurd (omega arith)
-codecs-decide (c ∷ l) (d ∷ k) n m o compared e r f =
-    f ∙ same-digests c d l k (order-equal l k (digests (c ∷ l) (d ∷ k) n m o compared ∙ e))
+  -- where they are equal, the codecs decide
+  pub codecs-decide : o ≡ Equal → (r : Order) → r ≡ order (take 1 v) (take 1 w) → r ≡ valueOrder v w
+  codecs-decide e r f =
+      let same = order-equal (valueDigest v) (valueDigest w) (digests ∙ e) in
+      f ∙ less-connected (take 1 v) (take 1 w)
+      (λ h. less-order (take 1 v) (take 1 w) h ∙ sym (lesser-value v w (lesser-codec v w same h) .0))
+      (λ q. equal-order (take 1 v) (take 1 w) q ∙ sym (same-value v w (same-parts v w q same)))
+      (λ h. greater-order (take 1 v) (take 1 w) h ∙ sym (lesser-value w v (lesser-codec w v (sym same) h) .1))

@@ -4,7 +4,6 @@ use mathlib.Core.Path.{_≡_}
 use mathlib.Core.Bool.{Bool, true, false, cond}
 use mathlib.Core.List.{List, [], _∷_, _++_}
 use lib.ListN.{length, take, drop, getD, set}
-use lib.Dec.{ltb}
 use Rattle.value.specs.Value.{digestLength, valueIn}
 use Rattle.limits.specs.Limits.{most}
 use Rattle.bytestring.specs.Bytes.{equal}
@@ -77,12 +76,9 @@ unfoldable pub combinedOf : Policy → List ℕ → List ℕ → List ℕ → �
 combinedOf policy s u first n second m = combined (ruleOf policy) (recordsOf s u first n) (recordsOf s u second m)
 
 -- ---- the next word of a row
--- The order of values as one of three cases, and that of two bytes.
+-- The order of values as one of three cases.
 unfoldable pub valueOrder : List ℕ → List ℕ → Order
 valueOrder v w = cond (lessValue v w) Less (cond (lessValue w v) Greater Equal)
-
-abbrev pub orderOfBytes : ℕ → ℕ → Order
-orderOfBytes a b = cond (ltb a b) Less (cond (ltb b a) Greater Equal)
 
 -- The value whose digest stands at a place of the register that a word belongs to.
 unfoldable pub valueAt : List ℕ → List ℕ → ℕ → ℕ → List ℕ

@@ -8,7 +8,7 @@ ghost use Prim.Native.Nat.{_+_, _≤_};
 ghost use lib.ListN.{length};
 ghost use Rattle.value.specs.Value.{digestLength};
 ghost use Rattle.row.specs.Row.{sourceOf};
-ghost use Rattle.choice.specs.Choice.{orderOfBytes, valueOrder, valueAt, wordOf, keepsFirst, wordOfBoth, keepsOfBoth, candidateOf, restEnd};
+ghost use Rattle.choice.specs.Choice.{valueOrder, valueAt, wordOf, keepsFirst, wordOfBoth, keepsOfBoth, candidateOf, restEnd};
 
 // Two rows are merged, where of two values under one key the greater is kept; or of the second row's records those are kept that the first
 // row's do not hold, key and value.
@@ -25,26 +25,13 @@ pub struct Candidate {
     pub second: bool,
 }
 
-// The order of two bytes.
-fn order_of_bytes(a: u8, b: u8) -> Order
-    ensures { λ r. ⌜ r ≡ orderOfBytes a b ⌝ }
-{
-    if a < b {
-        return Order::Less;
-    }
-    if b < a {
-        return Order::Greater;
-    }
-    Order::Equal
-}
-
 // The order of two values: of their digests and, where these are equal, of their codecs.
 fn compare_values(v: Value, w: Value) -> Order
     ensures { λ r. ⌜ r ≡ valueOrder v w ⌝ }
 {
     match compare(&v[1..], &w[1..]) {
         Order::Less => Order::Less,
-        Order::Equal => order_of_bytes(v[0], w[0]),
+        Order::Equal => compare(&v[..1], &w[..1]),
         Order::Greater => Order::Greater,
     }
 }

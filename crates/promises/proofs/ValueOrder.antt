@@ -1,8 +1,9 @@
 -- The order of values: by their digests, and at equal digests by the codecs.
 use Prim.Native.Nat.{ℕ, _<_}
-use mathlib.Core.Path.{_≡_, sym, _∙_}
+use mathlib.Core.Path.{_≡_, sym, ap₂, _∙_}
 use mathlib.Core.Bool.{true, false, false≢true, or-true}
-use mathlib.Core.List.{List}
+use mathlib.Core.List.{List, _++_}
+use lib.ListN.{take, take-append-drop}
 use borrow.Table.Steps.{cases}
 use borrow.Author.Tests.{lt-ltb}
 use Rattle.bytestring.proofs.Equal.{equal-cases}
@@ -17,12 +18,12 @@ module _ (v w : List ℕ) where
   unfolding lessValue
   lesser-digest h = rw h
 
-  pub lesser-codec : valueDigest v ≡ valueDigest w → less v w ≡ true → lessValue v w ≡ true
+  pub lesser-codec : valueDigest v ≡ valueDigest w → less (take 1 v) (take 1 w) ≡ true → lessValue v w ≡ true
   unfolding lessValue
   lesser-codec e h =
       equal-cases (valueDigest v) (valueDigest w) (λ q _. rw (q, h) (or-true (less (valueDigest v) (valueDigest w)))) (λ q n. absurd (n e))
 
-  value-cases {κ} : {C : Type κ} → lessValue v w ≡ true → (less (valueDigest v) (valueDigest w) ≡ true → C) → (valueDigest v ≡ valueDigest w → less v w ≡ true → C) → C
+  value-cases {κ} : {C : Type κ} → lessValue v w ≡ true → (less (valueDigest v) (valueDigest w) ≡ true → C) → (valueDigest v ≡ valueDigest w → less (take 1 v) (take 1 w) ≡ true → C) → C
   unfolding lessValue
   value-cases h f g =
       cases (less (valueDigest v) (valueDigest w)) f
@@ -30,8 +31,12 @@ module _ (v w : List ℕ) where
       (λ q same. g same (rw (e, q) at h))
       (λ q _. absurd (false≢true (rw (e, q) at h))))
 
+-- the codec and the digest are all of a value
+pub same-parts : (v w : List ℕ) → take 1 v ≡ take 1 w → valueDigest v ≡ valueDigest w → v ≡ w
+same-parts v w e f = sym (take-append-drop 1 v) ∙ ap₂ (λ (a b : List ℕ). a ++ b) e f ∙ take-append-drop 1 w
+
 value-irreflexive : (v : List ℕ) → lessValue v v ≡ true → ⊥
-value-irreflexive v h = value-cases v v h (less-irreflexive (valueDigest v)) (λ _. less-irreflexive v)
+value-irreflexive v h = value-cases v v h (less-irreflexive (valueDigest v)) (λ _. less-irreflexive (take 1 v))
 
 pub value-transitive : (u v w : List ℕ) → lessValue u v ≡ true → lessValue v w ≡ true → lessValue u w ≡ true
 value-transitive u v w h k =
@@ -41,13 +46,13 @@ value-transitive u v w h k =
     (λ e _. lesser-digest u w (rw (← e) p)))
     (λ d p. value-cases v w k
     (λ q. lesser-digest u w (rw d q))
-    (λ e q. lesser-codec u w (d ∙ e) (less-transitive u v w p q)))
+    (λ e q. lesser-codec u w (d ∙ e) (less-transitive (take 1 u) (take 1 v) (take 1 w) p q)))
 
 pub value-connected {κ} : {C : Type κ} (v w : List ℕ) → (lessValue v w ≡ true → C) → (v ≡ w → C) → (lessValue w v ≡ true → C) → C
 value-connected v w f g h =
     less-connected (valueDigest v) (valueDigest w)
     (λ p. f (lesser-digest v w p))
-    (λ e. less-connected v w (λ p. f (lesser-codec v w e p)) g (λ p. h (lesser-codec w v (sym e) p)))
+    (λ e. less-connected (take 1 v) (take 1 w) (λ p. f (lesser-codec v w e p)) (λ q. g (same-parts v w q e)) (λ p. h (lesser-codec w v (sym e) p)))
     (λ p. h (lesser-digest w v p))
 
 pub value-asymmetric : (v w : List ℕ) → lessValue v w ≡ true → lessValue w v ≡ false

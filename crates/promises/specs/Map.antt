@@ -3,6 +3,7 @@ use Prim.Native.Nat.{ℕ, zero, suc}
 use mathlib.Core.Bool.{Bool, true, false, cond, _&&_, _||_}
 use mathlib.Core.Option.{Option, none, some}
 use mathlib.Core.List.{List, [], _∷_}
+use lib.ListN.{take}
 use Rattle.bytestring.specs.Bytes.{equal}
 use Rattle.value.specs.Value.{valueDigest}
 use Rattle.key.specs.Key.{less}
@@ -32,9 +33,9 @@ insert choose r (x ∷ m) =
 unfoldable pub put : Record → List Record → List Record
 put r m = insert (λ old new. new) r m
 
--- The order of values: by their digests and, where these are equal, by the codecs, which stand first.
+-- The order of values: by their digests and, where these are equal, by the codecs, their first bytes.
 unfoldable pub lessValue : List ℕ → List ℕ → Bool
-lessValue v w = less (valueDigest v) (valueDigest w) || (equal (valueDigest v) (valueDigest w) && less v w)
+lessValue v w = less (valueDigest v) (valueDigest w) || (equal (valueDigest v) (valueDigest w) && less (take 1 v) (take 1 w))
 
 -- The greater of two values.
 unfoldable pub greater : List ℕ → List ℕ → List ℕ

@@ -1,5 +1,5 @@
 use borrow.Author.Needs.{needs}
-use Rattle.choice.proofs.Values.{values-less, codecs-decide, values-greater}
+use Rattle.choice.proofs.Values.{first-taken, values-less, codecs-decide, values-greater}
 use Rattle.choice.proofs.policy.compare_values.Statement.{statement}
 use Rattle.choice.proofs.policy.compare_values.Tie as tie
 
@@ -17,7 +17,9 @@ compare-values-spec =
     (λ c. search needs)
     (λ c. search needs)
     (λ c. search needs)
+    (λ c. search (needs, first-taken))
     (λ c. search needs)
+    (λ c. search (needs, first-taken))
     (λ c κs. search needs)
     (λ c. search needs)
     (λ c. search (needs, values-less))
