@@ -15,7 +15,7 @@ const DOCUMENTS: [&str; 4] = [
 ];
 
 /// The code spans that name nothing in the repository. Each must be in use.
-const LITERALS: [&str; 16] = [
+const LITERALS: [&str; 17] = [
     // Keys of records in examples.
     "a/b1",
     "a/b2",
@@ -24,6 +24,8 @@ const LITERALS: [&str; 16] = [
     "a/...",
     "./a",
     "../a",
+    // What stands before the name in the key of a state.
+    "state/",
     // The two names that no key has, and the bytes beside letters and digits.
     ".",
     "..",

@@ -6,7 +6,7 @@ use native.Mathlib.Omega.{arith}
 use lib.Dec.{eqb}
 use borrow.Author.Tests.{ne-eqb}
 use Rattle.answer.specs.declared.Refusal.{Refusal}
-use Rattle.answer.specs.declared.Refusal.the-variants.{TooLong, EndsEarly, Departs, BytesFollow, TooManyRecords, WrongPrefix, UnlawfulKey, KeysNotRising, WrongTree, WrongDigest, WrongValue, KeyAbsent, NoRoom, FirstAfterLast, NoSuchScreen, PageNotDue, UntrueHead}
+use Rattle.answer.specs.declared.Refusal.the-variants.{TooLong, EndsEarly, Departs, BytesFollow, TooManyRecords, WrongPrefix, UnlawfulKey, KeysNotRising, WrongTree, WrongDigest, WrongValue, KeyAbsent, NoRoom, FirstAfterLast, NoSuchScreen, PageNotDue, UntrueHead, WrongStates}
 use Rattle.answer.specs.declared.Answer.{Answer}
 use Rattle.answer.specs.declared.Answer.the-variants.{Done, Refused}
 use Rattle.answer.specs.declared.AnswerOfTwo.{AnswerOfTwo}
@@ -33,6 +33,7 @@ number-within FirstAfterLast = omega arith
 number-within NoSuchScreen = omega arith
 number-within PageNotDue = omega arith
 number-within UntrueHead = omega arith
+number-within WrongStates = omega arith
 
 -- so it is its own remainder by 256, which is not 0
 module _ (r : Refusal) where

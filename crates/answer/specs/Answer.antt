@@ -1,11 +1,11 @@
--- The seventeen numbers, what an answer says, and an answer as one number.
+-- The eighteen numbers, what an answer says, and an answer as one number.
 use Prim.Native.Nat.{ℕ, _+_, _*_, _/_, _%_, _^_}
 use mathlib.Core.Path.{_≡_}
 use mathlib.Core.Bool.{cond}
 use mathlib.Core.List.{List, [], _∷_}
 use lib.Dec.{eqb}
 use Rattle.answer.specs.declared.Refusal.{Refusal}
-use Rattle.answer.specs.declared.Refusal.the-variants.{TooLong, EndsEarly, Departs, BytesFollow, TooManyRecords, WrongPrefix, UnlawfulKey, KeysNotRising, WrongTree, WrongDigest, WrongValue, KeyAbsent, NoRoom, FirstAfterLast, NoSuchScreen, PageNotDue, UntrueHead}
+use Rattle.answer.specs.declared.Refusal.the-variants.{TooLong, EndsEarly, Departs, BytesFollow, TooManyRecords, WrongPrefix, UnlawfulKey, KeysNotRising, WrongTree, WrongDigest, WrongValue, KeyAbsent, NoRoom, FirstAfterLast, NoSuchScreen, PageNotDue, UntrueHead, WrongStates}
 use Rattle.answer.specs.declared.Answer.{Answer}
 use Rattle.answer.specs.declared.Answer.the-variants.{Done, Refused}
 use Rattle.answer.specs.declared.AnswerOfTwo.{AnswerOfTwo}
@@ -28,6 +28,8 @@ use Rattle.answer.specs.declared.AnswerOfTwo.the-variants.{Both, Refused
 -- 15: a screen number is at or past the number of screens.
 -- 16: the digest of a path's page is not the one due.
 -- 17: a lent head is untrue of its register.
+-- 18: the pages of states are missing, unreached or not in rising order of digest, a record of theirs is of another collection or codec, or a
+-- state does not gather into an accepted register; or a save would lay two unequal pages under one digest.
 abbrev pub numberOf : Refusal → ℕ
 numberOf TooLong = 1
 numberOf EndsEarly = 2
@@ -46,6 +48,7 @@ numberOf FirstAfterLast = 14
 numberOf NoSuchScreen = 15
 numberOf PageNotDue = 16
 numberOf UntrueHead = 17
+numberOf WrongStates = 18
 
 -- What an answer says: a refusal its number alone, a call that is done its values.
 pub data Said : Type 0 where

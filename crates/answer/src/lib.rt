@@ -1,4 +1,4 @@
-// The answers of the public calls and the seventeen refusals. The functions are for the crates above and no public calls.
+// The answers of the public calls and the eighteen refusals. The functions are for the crates above and no public calls.
 ghost use mathlib.Core.Path.{_≡_};
 ghost use Rattle.answer.specs.Answer.{numberOf, encoded, encodedOfTwo};
 ghost use Rattle.answer.specs.Inner.{FirstFits, withSecond};
@@ -22,6 +22,7 @@ pub enum Refusal {
     NoSuchScreen,
     PageNotDue,
     UntrueHead,
+    WrongStates,
 }
 
 // What a call answers: a value, or the reason of a refusal.
@@ -58,6 +59,7 @@ pub fn number_of(refusal: Refusal) -> u64
         Refusal::NoSuchScreen => 15,
         Refusal::PageNotDue => 16,
         Refusal::UntrueHead => 17,
+        Refusal::WrongStates => 18,
     }
 }
 

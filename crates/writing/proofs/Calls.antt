@@ -2,7 +2,7 @@
 use Prim.Native.Nat.{ℕ, _+_, _-_, _≤_, _<_}
 use mathlib.Core.Path.{_≡_, refl, sym, ap, subst, _∙_}
 use mathlib.Core.Bool.{Bool, true, false}
-use mathlib.Core.Option.{none, Option·none-ne-some}
+use mathlib.Core.Option.{none, some, Option·none-ne-some}
 use mathlib.Core.List.{List, [], _∷_, _++_, map, map-append}
 use native.Mathlib.Numerals.{add-one}
 use native.Mathlib.Omega.{arith}
@@ -26,24 +26,24 @@ use Rattle.row.proofs.Rows.{records-length}
 use Rattle.head.specs.declared.Head.{Head}
 use Rattle.head.specs.declared.Headed.{Headed}
 use Rattle.writer.specs.Output.{tableAnswer, tableOutput, tableHeaded}
-use Rattle.promises.specs.Map.{find, remove}
-use Rattle.promises.specs.Outcome.{placeOf}
+use Rattle.promises.specs.Map.{find, isThere, put, remove}
+use Rattle.promises.specs.Outcome.{placeOf, stopped as refusedWrite}
 use Rattle.promises.specs.Moved.{stopped, removeOutcome}
 use Rattle.row.specs.Search.{placeFound, PositionIs, SearchSays, countBelow, countUpTo}
 use Rattle.row_words.specs.RowWords.{LeftOut, Single}
 use Rattle.choice.specs.Choice.{choiceOf, weave, wovenOf, RowOf, ChooseSays}
 use Rattle.writing.specs.Tests.{recordTests, rangeTests}
-use Rattle.writing.specs.Writing.{written, movedTo, setOutcome, recordsFrom}
+use Rattle.writing.specs.Writing.{written, writtenWithout, movedTo, setOutcome, recordsFrom}
 use Rattle.choice.specs.declared.choose.Chosen.{Chosen}
 use Rattle.choice.specs.declared.choose.Chosen.the-variants.{Count, TooMany}
 use Rattle.row.specs.declared.search.Searched.{Searched}
 use Rattle.row.specs.declared.search.Searched.the-variants.{At, Absent}
-use Rattle.choice.proofs.Weaving.{remove-at, find-at}
+use Rattle.choice.proofs.Weaving.{weave-put, remove-at, find-at}
 use Rattle.choice.proofs.Choosing.{all-first, first-at, all-drop, records-slice, records-front}
 use Rattle.reading.proofs.Verdicts.{Accepting, t, sorted, short, row-first, records-first, accepted-few}
 use Rattle.reading.proofs.Answering.{searched, position-is, position-within}
 use Rattle.checking.specs.Lent.{TrueOf}
-use Rattle.writing.proofs.Writing.{Says, written-says, tested-value, test-held, run-written}
+use Rattle.writing.proofs.Writing.{Says, written-many, written-says, tested-value, test-held, run-written}
 use Rattle.writing.proofs.Moving.{Gives, moved-many, moved-gives, set-written, remove-absent, remove-written}
 use borrow.Author.Tests.{not-true}
 use Rattle.promises.specs.Range.{recordsBetween, runOutcome}
@@ -73,6 +73,9 @@ module _ (s u row : List ℕ) (rs : List Record) (c : Chosen) (w : ChooseSays s 
   pub chosen-row : {n : ℕ} → c ≡ Count n → RowOf s u row n rs
   chosen-row e = subst (λ (x : Chosen). ChooseSays s u rs x row) e w
 
+  pub chosen-full : (room : ℕ) → c ≡ TooMany → written rs room ≡ refusedWrite TooManyRecords
+  chosen-full room e = written-many rs room (subst (λ (x : Chosen). ChooseSays s u rs x row) e w)
+
   pub chosen-many : (room : ℕ) → c ≡ TooMany → movedTo rs room ≡ stopped TooManyRecords
   chosen-many room e = moved-many rs room (subst (λ (x : Chosen). ChooseSays s u rs x row) e w)
 
@@ -97,63 +100,88 @@ module _ (k value v : List ℕ) (q : due (recordTests k value) ≡ none) (copied
   pub copied-value : isValue v ≡ true
   copied-value = rw same-value (tested-value k value q)
 
+-- ---- a record left out
+module _ {s index : List ℕ} {count : ℕ} (a : Accepting s index count) (k : List ℕ) (r : Searched) (v : SearchSays s index count k r) where
+  module _ (position place : ℕ) (e : r ≡ At position place) where
+    found : PositionIs k (records (t a)) (At position place)
+    found = position-is (a .given) k r v position place e
+
+    inside : position < count
+    inside = position-within (a .given) k r v position place e
+
+    found-value : (w : List ℕ) × (find k (records (t a)) ≡ some w)
+    found-value = (_, find-at k nothing (records (t a)) (sorted a) position (found .0) (found .1))
+
+    module _ (index′ : List ℕ) (same : length index′ ≡ length index) (left : LeftOut index count position index′) where
+      parts-stand : All (Stands s s) (take (count - 1) index′)
+      unfolding LeftOut
+      parts-stand =
+          let whole = all-first (Stands s s) index count (a .given .room) (row-first a s (short a) .stands) in
+          rw left (all-append (Stands s s) (take position index) (drop (position + 1) (take count index))
+          (all-first (Stands s s) index position (omega (arith, inside)) (λ i h. row-first a s (short a) .stands i (omega (arith, inside))))
+          (all-drop (Stands s s) (position + 1) (take count index) whole))
+
+      left-records : map (recordOfWord s s) (take position index) ++ map (recordOfWord s s) (drop (position + 1) (take count index)) ≡ remove k (records (t a))
+      left-records =
+          let within : position ≤ count = omega (arith, inside) in
+          rw (records-front s s index count position within, records-slice s s index count (position + 1), records-first a s, add-one position)
+          (sym (remove-at k nothing (records (t a)) (sorted a) position (found .0) (found .1)))
+
+      pub left-row : RowOf s s index′ (count - 1) (remove k (records (t a)))
+      unfolding recordsOf LeftOut
+      left-row = record {
+        whole = record {
+          few = omega (arith, row-first a s (short a) .few);
+          room = omega arith;
+          first = short a;
+          second = short a;
+          stands = first-at (Stands s s) index′ (count - 1) (omega arith) parts-stand;
+        };
+        records = rw left (map-append (recordOfWord s s) (take position index) (drop (position + 1) (take count index)) ∙ left-records);
+      }
+
+    pub found-without : (out : ℕ) → written (remove k (records (t a))) out ≡ writtenWithout k (acceptedRecords (judge s)) out
+    unfolding writtenWithout isThere
+    found-without out = rw (records-in (a .given), found-value .1)
+
+  module _ (position : ℕ) (e : r ≡ Absent position) where
+    absent : find k (records (t a)) ≡ none
+    absent =
+        let nowhere = sym (searched (a .given) k r v .0) ∙ ap placeFound e in
+        not-found k (records (t a)) (places 0 (t a)) (places-length (t a)) nowhere
+
+    pub absent-without : (out : ℕ) → writtenWithout k (acceptedRecords (judge s)) out ≡ refusedWrite KeyAbsent
+    unfolding writtenWithout isThere
+    absent-without out = rw (records-in (a .given), absent)
+
+-- ---- a record set
+module _ {s index : List ℕ} {count : ℕ} (a : Accepting s index count) (k v page : List ℕ) (w : ℕ) (one : Single k v page w) where
+  pub woven-single : (g : Bool) → wovenOf g s page index count (w ∷ []) 1 ≡ weave (choiceOf g) (records (t a)) (record { key = k; val = v } ∷ [])
+  unfolding wovenOf recordsOf
+  woven-single g =
+      ap (λ (rs : List Record). weave (choiceOf g) rs (recordOfWord s page w ∷ [])) (records-first a page) ∙ rw (one .spells s)
+
+  pub put-done : (out : ℕ) → written (wovenOf false s page index count (w ∷ []) 1) out ≡ written (put (record { key = k; val = v }) (acceptedRecords (judge s))) out
+  put-done out =
+      ap (λ (rs : List Record). written rs out) (woven-single false ∙ weave-put (record { key = k; val = v }) (records (t a)) ∙ rw (records-in (a .given)))
+
 module _ {s index : List ℕ} {count : ℕ} (a : Accepting s index count) (h : Head) (own : TrueOf s h) where
   -- ---- put and join
   module _ (g : Bool) (k value v : List ℕ) (q : due (recordTests k value) ≡ none) (copied : length value ≡ valueLength → v ≡ value)
       (page : List ℕ) (w : ℕ) (one : Single k v page w) where
     pub set-done : (out : ℕ) → movedTo (wovenOf g s page index count (w ∷ []) 1) out ≡ setOutcome g s h k value out
-    unfolding wovenOf recordsOf
     set-done out =
-        ap (λ (rs : List Record). movedTo rs out)
-        (ap (λ (rs : List Record). weave (choiceOf g) rs (recordOfWord s page w ∷ [])) (records-first a page)
-        ∙ rw (one .spells s, same-value k value v q copied))
+        ap (λ (rs : List Record). movedTo rs out) (woven-single a k v page w one g ∙ rw (same-value k value v q copied))
         ∙ set-written g s h k value out (t a) (a .given .judged) own q
 
   -- ---- remove
   module _ (k : List ℕ) (r : Searched) (v : SearchSays s index count k r) where
-    module _ (position place : ℕ) (e : r ≡ At position place) where
-      found : PositionIs k (records (t a)) (At position place)
-      found = position-is (a .given) k r v position place e
-
-      inside : position < count
-      inside = position-within (a .given) k r v position place e
-
-      module _ (index′ : List ℕ) (same : length index′ ≡ length index) (left : LeftOut index count position index′) where
-        parts-stand : All (Stands s s) (take (count - 1) index′)
-        unfolding LeftOut
-        parts-stand =
-            let whole = all-first (Stands s s) index count (a .given .room) (row-first a s (short a) .stands) in
-            rw left (all-append (Stands s s) (take position index) (drop (position + 1) (take count index))
-            (all-first (Stands s s) index position (omega (arith, inside)) (λ i h. row-first a s (short a) .stands i (omega (arith, inside))))
-            (all-drop (Stands s s) (position + 1) (take count index) whole))
-
-        left-records : map (recordOfWord s s) (take position index) ++ map (recordOfWord s s) (drop (position + 1) (take count index)) ≡ remove k (records (t a))
-        left-records =
-            let within : position ≤ count = omega (arith, inside) in
-            rw (records-front s s index count position within, records-slice s s index count (position + 1), records-first a s, add-one position)
-            (sym (remove-at k nothing (records (t a)) (sorted a) position (found .0) (found .1)))
-
-        pub left-row : RowOf s s index′ (count - 1) (remove k (records (t a)))
-        unfolding recordsOf LeftOut
-        left-row = record {
-          whole = record {
-            few = omega (arith, row-first a s (short a) .few);
-            room = omega arith;
-            first = short a;
-            second = short a;
-            stands = first-at (Stands s s) index′ (count - 1) (omega arith) parts-stand;
-          };
-          records = rw left (map-append (recordOfWord s s) (take position index) (drop (position + 1) (take count index)) ∙ left-records);
-        }
-
-        pub remove-done : (out : ℕ) → lawful k ≡ true → movedTo (remove k (records (t a))) out ≡ removeOutcome s h k out
-        remove-done out l =
-            remove-written s h k out (t a) (a .given .judged) own l _ (find-at k nothing (records (t a)) (sorted a) position (found .0) (found .1))
+    pub remove-done : (position place : ℕ) → r ≡ At position place → (out : ℕ) → lawful k ≡ true
+        → movedTo (remove k (records (t a))) out ≡ removeOutcome s h k out
+    remove-done position place e out l = remove-written s h k out (t a) (a .given .judged) own l _ (found-value a k r v position place e .1)
 
     pub absent-done : (out : ℕ) → lawful k ≡ true → (position : ℕ) → r ≡ Absent position → removeOutcome s h k out ≡ stopped KeyAbsent
-    absent-done out l position e =
-        let nowhere = sym (searched (a .given) k r v .0) ∙ ap placeFound e in
-        remove-absent s h k out (t a) (a .given .judged) own l (not-found k (records (t a)) (places 0 (t a)) (places-length (t a)) nowhere)
+    absent-done out l position e = remove-absent s h k out (t a) (a .given .judged) own l (absent a k r v position e)
 
 -- ---- run
 -- the words of a part of the index stand for that part of the records

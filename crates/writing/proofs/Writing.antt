@@ -1,5 +1,5 @@
 -- The tests of a call's arguments in their order, the table of a result, and what run answers and writes.
-use Prim.Native.Nat.{ℕ, _≤_}
+use Prim.Native.Nat.{ℕ, _≤_, _<_}
 use mathlib.Core.Path.{_≡_, refl, _∙_}
 use mathlib.Core.Bool.{Bool, true, false, _&&_}
 use mathlib.Core.Option.{Option, none, some}
@@ -7,12 +7,12 @@ use mathlib.Core.List.{List, [], _∷_, _++_}
 use native.Mathlib.Omega.{arith}
 use lib.ListN.{length, getD}
 use lib.Dec.{leb}
-use borrow.Author.Tests.{le-leb, eq-eqb, ne-eqb}
+use borrow.Author.Tests.{le-leb, lt-leb, eq-eqb, ne-eqb}
 use borrow.Table.Steps.{cases}
 use Rattle.limits.specs.Limits.{longest, most}
 use Rattle.bytestring.specs.Bytes.{zeros}
 use Rattle.answer.specs.declared.Refusal.{Refusal}
-use Rattle.answer.specs.declared.Refusal.the-variants.{UnlawfulKey}
+use Rattle.answer.specs.declared.Refusal.the-variants.{TooManyRecords, UnlawfulKey}
 use Rattle.answer.specs.declared.Answer.{Answer}
 use Rattle.answer.specs.declared.Answer.the-variants.{Done, Refused}
 use Rattle.key.specs.Key.{lawful, slashAnswer}
@@ -110,6 +110,10 @@ module _ (us : List Test) where
 
 -- ---- the table of a result
 module _ (rs : List Record) (room : ℕ) where
+  pub written-many : most < length rs → written rs room ≡ stopped TooManyRecords
+  unfolding written sizes due settle
+  written-many h = rw (lt-leb (length rs) most h)
+
   module _ (few : length rs ≤ most) where
     pub few-sizes : due (sizes rs room) ≡ due (roomTest rs room ∷ [])
     unfolding sizes due

@@ -1,5 +1,6 @@
-use mathlib.Core.Path.{subst}
+use mathlib.Core.Path.{sym, ap, subst, _∙_}
 use native.Mathlib.Omega.{arith}
+use Rattle.answer.specs.Answer.{encodedOfTwo}
 use Rattle.answer.specs.Inner.{FirstFits}
 use borrow.Author.Needs.{needs}
 use Rattle.answer.proofs.encode_two.Statement.{statement}
@@ -22,4 +23,4 @@ encode-two-spec =
     (λ c. search needs)
     (λ c κs. search needs)
     (λ c. cc)
-    (λ c. search needs))
+    (λ c. c .number-of .ensures ∙ sym (ap encodedOfTwo (c .before .before .answer2 .given .1))))

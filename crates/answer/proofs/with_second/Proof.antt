@@ -1,3 +1,5 @@
+use mathlib.Core.Path.{sym, ap}
+use Rattle.answer.specs.Inner.{withSecond}
 use borrow.Author.Needs.{needs}
 use Rattle.answer.proofs.with_second.Statement.{statement}
 use Rattle.answer.proofs.with_second.Tie as tie
@@ -9,4 +11,4 @@ with-second-spec =
     (λ c. search needs)
     (λ c. search needs)
     (λ c. cc)
-    (λ c. cc))
+    (λ c. sym (ap (λ a. withSecond a (c .before .before .before .args .second)) (c .before .answer2 .given .1))))

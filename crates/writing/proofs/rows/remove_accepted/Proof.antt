@@ -35,15 +35,15 @@ write-headed-requires c κs =
     let start = c .before .before .before .before .before .before .before .before .before .before .before .before .before .before .before .before .before .before .before .before .before in
     let a = accepting (λ i h. omega (arith, c .before .before .before .before .before .before .before .before .before .before .before .before .before .before .before .before .before .before .before .before .shared-slice-known .given i)) (c .before .before .before .before .before .before .before .before .before .before .before .before .before .before .before .before .before .before .before .before .before .pre .0) in
     let labelled = row-labelled (start .pre .1) in
-    let row = left-row a _ (c .before .before .before .before .before .before .before .before .before .before .before .before .before .before .before .before .before .before .before .before .before .pre .2) _ _ (c .before .before .before .before .before .before .before .before .before .search .ensures .0) _ _ (c .before .before .before .before .before .before .before .position .given .1) _ (c .before .before .before .before .leave-out .kept .0) (c .before .before .before .before .leave-out .ensures) .whole in
+    let row = left-row a _ _ (c .before .before .before .before .before .before .before .before .before .search .ensures .0) _ _ (c .before .before .before .before .before .before .before .position .given .1) _ (c .before .before .before .before .leave-out .kept .0) (c .before .before .before .before .leave-out .ensures) .whole in
     (row, labelled, labelled, lent-digest _ _ _ (a .bytes) (a .given .judged) (start .pre .2) _ (c .before .before .before .before .before .before .before .before .before .before .before .before .root-end .ensures))
 
 returns-2 : tie.Need-returns-2
 returns-2 c =
     let a = accepting (λ i h. omega (arith, c .before .before .before .before .before .before .before .before .before .before .before .before .before .before .before .before .before .before .before .before .before .before .before .shared-slice-known .given i)) (c .before .before .before .before .before .before .before .before .before .before .before .before .before .before .before .before .before .before .before .before .before .before .before .before .pre .0) in
-    let row = left-row a _ (c .before .before .before .before .before .before .before .before .before .before .before .before .before .before .before .before .before .before .before .before .before .before .before .before .pre .2) _ _ (c .before .before .before .before .before .before .before .before .before .before .before .before .search .ensures .0) _ _ (c .before .before .before .before .before .before .before .before .before .before .position .given .1) _ (c .before .before .before .before .before .before .before .leave-out .kept .0) (c .before .before .before .before .before .before .before .leave-out .ensures) in
+    let row = left-row a _ _ (c .before .before .before .before .before .before .before .before .before .before .before .before .search .ensures .0) _ _ (c .before .before .before .before .before .before .before .before .before .before .position .given .1) _ (c .before .before .before .before .before .before .before .leave-out .kept .0) (c .before .before .before .before .before .before .before .leave-out .ensures) in
     let lawful = slash-done _ _ (sym (c .before .before .before .before .before .before .before .before .before .before .before .before .before .before .before .before .before .before .slash .ensures) ∙ c .before .before .before .before .before .before .before .before .before .before .before .before .before .before .before .before .enum-told .given .1) in
-    let done = remove-done a _ (c .before .before .before .before .before .before .before .before .before .before .before .before .before .before .before .before .before .before .before .before .before .before .before .before .pre .2) _ _ (c .before .before .before .before .before .before .before .before .before .before .before .before .search .ensures .0) _ _ (c .before .before .before .before .before .before .before .before .before .before .position .given .1) _ (c .before .before .before .before .before .before .before .leave-out .kept .0) (c .before .before .before .before .before .before .before .leave-out .ensures) _ lawful in
+    let done = remove-done a _ (c .before .before .before .before .before .before .before .before .before .before .before .before .before .before .before .before .before .before .before .before .before .before .before .before .pre .2) _ _ (c .before .before .before .before .before .before .before .before .before .before .before .before .search .ensures .0) _ _ (c .before .before .before .before .before .before .before .before .before .before .position .given .1) _ lawful in
     gives-same _ _ _ _ done (row-moved row _ _ _ _ (c .before .before .write-headed .ensures))
 
 returns-3 : tie.Need-returns-3

@@ -1,0 +1,4 @@
+pub mod Places
+pub mod Passing
+pub mod Rises
+pub mod Filing

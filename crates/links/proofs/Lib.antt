@@ -1,0 +1,4 @@
+pub mod Naming
+pub mod Heaps
+pub mod Sorted
+pub mod Finding

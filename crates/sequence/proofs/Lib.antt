@@ -1,0 +1,4 @@
+pub mod Links
+pub mod Sizes
+pub mod Sequences
+pub mod Places

@@ -1,0 +1,4 @@
+pub mod Pages
+pub mod States
+pub mod Order
+pub mod Promises

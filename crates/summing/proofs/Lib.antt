@@ -1,0 +1,10 @@
+pub mod Tallies
+pub mod Reaching
+pub mod Pages
+pub mod Raws
+pub mod Gaps
+pub mod Keys
+pub mod Entries
+pub mod Noting
+pub mod Trees
+pub mod Roots

@@ -1,0 +1,2 @@
+pub mod Summed
+pub mod Inner
