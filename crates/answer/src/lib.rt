@@ -1,10 +1,12 @@
 // The answers of the public calls and the eighteen refusals. The functions are for the crates above and no public calls.
+#![tactic(auto)]
+
 ghost use Rattle.std.specs.Prelude.{◌≡◌};
 ghost use Rattle.answer.specs.Answer.{number_of, encoded, encoded_of_two};
 ghost use Rattle.answer.specs.Inner.{FirstFits, with_second};
 
 // Why a call refuses, in the order of the numbers.
-#[derive(Drop)]
+#[derive(Clone, Copy)]
 pub enum Refusal {
     TooLong,
     EndsEarly,
@@ -27,14 +29,14 @@ pub enum Refusal {
 }
 
 // What a call answers: a value, or the reason of a refusal.
-#[derive(Drop)]
+#[derive(Clone, Copy)]
 pub enum Answer {
     Done(u32),
     Refused(Refusal),
 }
 
 // What a call with two values answers: a table's length and a count beside it, or a digest's place and a codec; or the reason of a refusal.
-#[derive(Drop)]
+#[derive(Clone, Copy)]
 pub enum AnswerOfTwo {
     Both(u32, u32),
     Refused(Refusal),

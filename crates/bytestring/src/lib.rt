@@ -1,4 +1,6 @@
 // Strings of bytes: comparing, copying and clearing.
+#![tactic(auto)]
+
 ghost use Rattle.std.specs.Prelude.{◌≡◌, ◌≤◌, length};
 ghost use Rattle.bytestring.specs.Bytes.{zeros, equal, front};
 

@@ -9,7 +9,7 @@ use crate::policy::{Candidate, Policy, candidate_of, rest_end};
 use limits::MOST;
 
 // How many records were chosen, or that they are too many for a register.
-#[derive(Drop)]
+#[derive(Clone, Copy)]
 pub enum Chosen {
     Count(usize),
     TooMany,

@@ -10,7 +10,7 @@ use key_order::compare;
 use row::recall::recall;
 
 // A position of a row; where its record's key stands in the memory, the key's length, and the place of the value in its register.
-#[derive(Drop)]
+#[derive(Clone, Copy)]
 pub struct Cursor {
     pub at: usize,
     pub from: usize,

@@ -11,14 +11,14 @@ use value::Value;
 
 // Two rows are merged, where of two values under one key the greater is kept; or of the second row's records those are kept that the first
 // row's do not hold, key and value.
-#[derive(Drop)]
+#[derive(Clone, Copy)]
 pub enum Policy {
     Merged,
     Lacking,
 }
 
 // The word whose turn it is, whether it is kept, whether the first row goes on, and whether the second does.
-#[derive(Drop)]
+#[derive(Clone, Copy)]
 pub struct Candidate {
     pub word: u64,
     pub kept: bool,

@@ -1,11 +1,13 @@
 // FIPS 180-4: the definitions of SHA-256 are in specs/. Here are the hash value and the functions on words, for the crates
 // above; none of them is a public call.
+#![tactic(auto)]
+
 ghost use Rattle.std.specs.Prelude.{◌≡◌, ◌+◌, ◌*◌, ◌/◌, ◌%◌, ◌^◌, ◌≤◌, length};
 ghost use Rattle.fips180.specs.Words.{Maj, Σ0, Σ1, σ0, σ1};
 ghost use Rattle.fips180.specs.Hash.{word};
 
 // A hash value, and the working variables of the rounds: eight words.
-#[derive(Drop)]
+#[derive(Clone, Copy)]
 pub struct State {
     pub a: u32,
     pub b: u32,

@@ -16,7 +16,7 @@ const PLACES: u32 = 0x40_0000;
 const NOTES: u32 = 0x100;
 
 // The length of what was gathered, or the output is too short for it.
-#[derive(Drop)]
+#[derive(Clone, Copy)]
 pub enum GatheredLength {
     Length(usize),
     NoRoom,

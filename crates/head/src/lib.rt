@@ -1,4 +1,6 @@
 // The head of a register: one small record that a caller keeps beside it. The functions are for the crates above and no public calls.
+#![tactic(auto)]
+
 ghost use Rattle.std.specs.Prelude.{◌≡◌};
 ghost use Rattle.head.specs.Head.{zero_head, same_head};
 
@@ -8,7 +10,7 @@ use value::{DIGEST, Digest};
 
 // The record count, the root's layer and the root's digest.
 #[repr(C)]
-#[derive(Drop)]
+#[derive(Clone, Copy)]
 pub struct Head {
     pub count: u32,
     pub layer: u32,
@@ -16,7 +18,7 @@ pub struct Head {
 }
 
 // What a call gives back that has a head beside its answer.
-#[derive(Drop)]
+#[derive(Clone, Copy)]
 pub struct Headed {
     pub answer: Answer,
     pub head: Head,

@@ -10,7 +10,7 @@ use page_keys::{extend_key, key_is_lawful, key_rises, prefix_fits, remember};
 use page_reader::{EntryRead, PageAt, PageRead, Stop, locate_entry, read_page};
 
 // Where the walk stands: the next byte, the records and the chains so far, the length of the last key, and whether each test held so far.
-#[derive(Drop)]
+#[derive(Clone, Copy)]
 pub struct WalkState {
     pub next: usize,
     pub count: usize,
@@ -22,7 +22,7 @@ pub struct WalkState {
     pub filled: bool,
 }
 
-#[derive(Drop)]
+#[derive(Clone, Copy)]
 pub enum Walked {
     Whole(WalkState),
     Stopped(Stop),

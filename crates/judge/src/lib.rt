@@ -18,7 +18,7 @@ use limits::MOST;
 use page_reader::Stop;
 
 // What a byte string is judged to be: a register of so many records and chains, or refused.
-#[derive(Drop)]
+#[derive(Clone, Copy)]
 pub enum Register {
     Accepted(usize, usize),
     Refused(Refusal),

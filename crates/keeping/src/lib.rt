@@ -26,7 +26,7 @@ const FROM_FIRST: u32 = 0x100_0000;
 const FROM_CHAINS: u32 = 0x200_0000;
 
 // The length of the sequence; or the output is too short for it; or two unequal pages share a digest.
-#[derive(Drop)]
+#[derive(Clone, Copy)]
 pub enum KeptLength {
     Length(usize),
     NoRoom,
@@ -34,14 +34,14 @@ pub enum KeptLength {
 }
 
 // Where the pages written so far end with one page more; or that page and the last of them are unequal and share a digest.
-#[derive(Drop)]
+#[derive(Clone, Copy)]
 enum PartAdded {
     End(usize),
     Unequal,
 }
 
 // A page: whether it stands in the register to be saved, from which place to before which, and its digest.
-#[derive(Drop)]
+#[derive(Clone, Copy)]
 struct PagePart {
     saved: bool,
     from: usize,
@@ -51,7 +51,7 @@ struct PagePart {
 
 // How far the two rows are written: the numbers of the next in each, where the i-th filed page begins, the length of the sequence so far,
 // whether there is a last page, and that page; and whether two unequal pages share a digest.
-#[derive(Drop)]
+#[derive(Clone, Copy)]
 struct Progress {
     i: usize,
     j: usize,

@@ -1,4 +1,6 @@
 // The order of keys, and the leading bytes that two share. The functions are for the crates above and no public calls.
+#![tactic(auto)]
+
 ghost use Rattle.std.specs.Prelude.{◌≡◌, true, ◌+◌, ◌≤◌, length};
 ghost use Rattle.key.specs.Key.{order, shared};
 ghost use Rattle.key_order.specs.Inner.{SharedSoFar};

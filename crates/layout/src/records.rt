@@ -16,7 +16,7 @@ use value::{Digest, Value};
 const LONGEST_ENTRY: usize = 353;
 
 // An entry's length, and that of its key, which is held; or that there is no room for it.
-#[derive(Drop)]
+#[derive(Clone, Copy)]
 pub struct Added {
     pub room: bool,
     pub len: usize,

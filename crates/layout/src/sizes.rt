@@ -12,7 +12,7 @@ use page_writer::{page_end_length, page_start_length};
 use row::recall::recall;
 
 // A page's length, the number of its entries, and the position of the first of them, which is the end of its records where it has none.
-#[derive(Drop)]
+#[derive(Clone, Copy)]
 pub struct Size {
     pub own: usize,
     pub count: usize,

@@ -1,4 +1,5 @@
 // The limits of registers and of the numbers in their pages.
+#![tactic(auto)]
 
 // The bytes of a register, and of the input of digest and layer.
 pub const LONGEST: usize = 4_194_304;

@@ -14,7 +14,7 @@ use row::recall::recall;
 use value::{VALUE, value_at};
 
 // A text's length, or that there is no room for it.
-#[derive(Drop)]
+#[derive(Clone, Copy)]
 pub enum TextAdded {
     Text(usize),
     NoRoom,

@@ -41,7 +41,7 @@ pub extern "C" fn mijdegen_slash(input: &[u8]) -> u64
 }
 
 // What a call gives back to the function that lends it a head: the answer as one number, and the head to store.
-#[derive(Drop)]
+#[derive(Clone, Copy)]
 pub struct Coded {
     pub code: u64,
     pub head: Head,

@@ -62,7 +62,7 @@ fn lower_marks(
 }
 
 // Where the next part begins, and whether the second register's root is still opened.
-#[derive(Drop)]
+#[derive(Clone, Copy)]
 struct Part {
     next: usize,
     opens: bool,
@@ -133,7 +133,7 @@ fn mark_known(
 }
 
 // How many records are staged, and how many pages are opened.
-#[derive(Drop)]
+#[derive(Clone, Copy)]
 pub struct Opening {
     pub staged: usize,
     pub opened: usize,

@@ -1,4 +1,5 @@
 // One page: the bytes that are the same in all pages.
+#![tactic(auto)]
 
 // Each page link begins with these nine bytes and goes on with 32 digest bytes. The seventh is the codec.
 pub const LINK_HEAD: [u8; 9] = [0xD8, 0x2A, 0x58, 0x25, 0x00, 0x01, 0x71, 0x12, 0x20];

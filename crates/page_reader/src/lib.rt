@@ -1,5 +1,7 @@
 // Readers at a place of a slice. At a place past the end the input ends early. The functions are for the crates above and no public
 // calls.
+#![tactic(auto)]
+
 ghost use Rattle.std.specs.Prelude.{◌≡◌, ◌||◌, ◌+◌, ◌-◌, ◌≤◌, ◌<◌, length, drop};
 ghost use Rattle.bytestring.specs.Bytes.{equal};
 ghost use Rattle.value.specs.Value.{digest_length, digest_in, raw, dag_cbor, value_in};
@@ -36,28 +38,28 @@ const EMPTY_GAP_TO_RAW: [u8; 14] = [
 ];
 
 // Why reading stopped: the input ends while a byte is due, or a byte departs from the form.
-#[derive(Drop)]
+#[derive(Clone, Copy)]
 pub enum Stop {
     EndsEarly,
     Departs,
 }
 
 // A place: after what was read, or of a digest.
-#[derive(Drop)]
+#[derive(Clone, Copy)]
 enum PlaceRead {
     Place(usize),
     PlaceStop(Stop),
 }
 
 // A number, and the place after it.
-#[derive(Drop)]
+#[derive(Clone, Copy)]
 pub enum NumberRead {
     Number(usize, usize),
     NumberStop(Stop),
 }
 
 // The place of the digest of a gap's link, or 0 where the gap is empty; and the place after it.
-#[derive(Drop)]
+#[derive(Clone, Copy)]
 enum GapRead {
     Gap(usize, usize),
     GapStop(Stop),
@@ -65,7 +67,7 @@ enum GapRead {
 
 // Where the parts of an entry stand: its key's remainder, which has size bytes; the digest of the link of the gap after it, or 0;
 // the digest of its value. The entry ends before the place end.
-#[derive(Drop)]
+#[derive(Clone, Copy)]
 pub struct EntryAt {
     pub shares: usize,
     pub remainder: usize,
@@ -75,7 +77,7 @@ pub struct EntryAt {
     pub end: usize,
 }
 
-#[derive(Drop)]
+#[derive(Clone, Copy)]
 pub enum EntryRead {
     Entry(EntryAt),
     EntryStop(Stop),
@@ -83,7 +85,7 @@ pub enum EntryRead {
 
 // Where the parts of a page stand: its count entries, from first to before past; the digest of its left link, or 0. The page ends
 // before the place end.
-#[derive(Drop)]
+#[derive(Clone, Copy)]
 pub struct PageAt {
     pub count: usize,
     pub first: usize,
@@ -92,7 +94,7 @@ pub struct PageAt {
     pub end: usize,
 }
 
-#[derive(Drop)]
+#[derive(Clone, Copy)]
 pub enum PageRead {
     Page(PageAt),
     PageStop(Stop),

@@ -1,5 +1,7 @@
 // Writers at the front of a slice: the bytes behind what they write stay as they were. Most answer how many bytes they wrote. The
 // functions are for the crates above and no public calls.
+#![tactic(auto)]
+
 ghost use Rattle.std.specs.Prelude.{◌≡◌, ◌++◌, ◌+◌, ◌-◌, ◌≤◌, ◌<◌, length, drop};
 ghost use Rattle.limits.specs.Limits.{numbers, longest_key};
 ghost use Rattle.bytestring.specs.Bytes.{front};

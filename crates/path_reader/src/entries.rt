@@ -12,7 +12,7 @@ use page_reader::{EntryAt, EntryRead, locate_entry};
 
 // Where the search for a key stands in a page. It goes on behind entries that come before the key; or the key is an entry; or it would stand
 // in a gap. A value is known by its place, and a gap by the place of its link's digest, or 0.
-#[derive(Drop)]
+#[derive(Clone, Copy)]
 pub enum Search {
     On(usize),
     Value(usize),
@@ -20,7 +20,7 @@ pub enum Search {
 }
 
 // What the entries of a page say: whether each test holds, and the search.
-#[derive(Drop)]
+#[derive(Clone, Copy)]
 pub struct EntriesJudged {
     pub prefixes: bool,
     pub lawful: bool,

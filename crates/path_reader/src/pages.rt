@@ -16,7 +16,7 @@ use value::{Digest, codec_at, digest_at};
 
 // What a page says: the key is an entry, whose value's digest stands at a place; it would stand in a gap without a link; it would stand in a gap whose
 // link's digest is at a place; or the page is refused. A page that is not refused ends before the place that is given last.
-#[derive(Drop)]
+#[derive(Clone, Copy)]
 pub enum PageVerdict {
     Present(usize, usize),
     Absent(usize),

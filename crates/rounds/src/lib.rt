@@ -1,4 +1,6 @@
 // FIPS 180-4, section 6.2.2: the blocks of a message. None of these is a public call.
+#![tactic(auto)]
+
 mod block; // the rounds of one block
 mod schedule; // the words of one block, or of four
 

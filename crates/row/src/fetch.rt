@@ -8,7 +8,7 @@ use page_reader::{EntryRead, NumberRead, locate_entry, read_page_start};
 use word::{entry_in, is_first, page_in, size_in};
 
 // The length of a key, which a buffer holds, and the places of its value and of what follows its entry.
-#[derive(Drop)]
+#[derive(Clone, Copy)]
 pub struct FetchedAt {
     pub size: usize,
     pub value: usize,
@@ -16,7 +16,7 @@ pub struct FetchedAt {
 }
 
 // Where the way to an entry begins, and the length of the key held there.
-#[derive(Drop)]
+#[derive(Clone, Copy)]
 enum Start {
     At(usize, usize),
     Nowhere,

@@ -8,7 +8,7 @@ use limits::LONGEST_KEY;
 use word::{layer_in, note_word, register_in};
 
 // Where a key stands in the memory, its length, and the place of its value in its register.
-#[derive(Drop)]
+#[derive(Clone, Copy)]
 pub struct Recalled {
     pub from: usize,
     pub size: usize,

@@ -8,7 +8,7 @@ use key_order::compare;
 use limits::LONGEST_KEY;
 
 // The position of the key's record and the place of its value; or the number of records before the key.
-#[derive(Drop)]
+#[derive(Clone, Copy)]
 pub enum Searched {
     At(usize, usize),
     Absent(usize),

@@ -6,7 +6,7 @@ ghost use Rattle.sequence.specs.Inner.{LinkNoted, EntriesNoted};
 use page_reader::{EntryRead, PageRead, Stop, locate_entry, read_page};
 
 // How many pages a sequence has and how many links, or why reading stopped.
-#[derive(Drop)]
+#[derive(Clone, Copy)]
 pub enum SequenceRead {
     Whole(usize, usize),
     Stopped(Stop),

@@ -25,21 +25,21 @@ use sequence::{SequenceRead, note_sequence};
 const MOST_PAGES: usize = 89_241;
 
 // What two buffers are judged to be: a register of so many states and a sequence of so many pages, or refused.
-#[derive(Drop)]
+#[derive(Clone, Copy)]
 pub enum StatesJudged {
     Held(usize, usize),
     Refused(Refusal),
 }
 
 // What the states are judged to be by themselves: a register of so many records, or refused.
-#[derive(Drop)]
+#[derive(Clone, Copy)]
 enum StatesIndexed {
     Count(usize),
     Unindexed(Refusal),
 }
 
 // What the pages are judged to be by themselves: so many pages with so many links, or refused.
-#[derive(Drop)]
+#[derive(Clone, Copy)]
 enum PagesNoted {
     Noted(usize, usize),
     Unnoted(Refusal),

@@ -29,13 +29,13 @@ const ALONE: usize = 130;
 const ROOM: usize = 257;
 
 // A part of a page, so far: the count of its records, and the length of its last key.
-#[derive(Drop)]
+#[derive(Clone, Copy)]
 pub struct PartSum {
     pub count: usize,
     pub size: usize,
 }
 
-#[derive(Drop)]
+#[derive(Clone, Copy)]
 pub enum PartJudged {
     Whole(PartSum),
     Wrong,

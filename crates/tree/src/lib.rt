@@ -1,1 +1,2 @@
 // The tree of pages.
+#![tactic(auto)]

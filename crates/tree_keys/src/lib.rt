@@ -31,14 +31,14 @@ const LONG: usize = 64;
 const TAG: usize = 512;
 
 // Where a key stands in the sequence.
-#[derive(Drop)]
+#[derive(Clone, Copy)]
 pub struct KeyAt {
     pub place: usize,
     pub size: usize,
 }
 
 // The length of a page's last own key, and the place of the digest of the link after it, or 0.
-#[derive(Drop)]
+#[derive(Clone, Copy)]
 struct OwnEnd {
     size: usize,
     link: usize,

@@ -1,4 +1,6 @@
 // Digests, codecs and values at places of a string of bytes. The functions are for the crates above and no public calls.
+#![tactic(auto)]
+
 ghost use Rattle.std.specs.Prelude.{◌≡◌, ◌+◌, ◌-◌, ◌≤◌, length};
 ghost use Rattle.bytestring.specs.Bytes.{equal};
 ghost use Rattle.value.specs.Value.{digest_length, digest_in, is_codec, value_length, codec_in, value_in};

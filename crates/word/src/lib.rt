@@ -1,5 +1,7 @@
 // The words of rows: a record has one and a chain two, and a note on a key and a link in a table have one each. The functions are for the
 // crates above and no public calls.
+#![tactic(auto)]
+
 ghost use Rattle.std.specs.Prelude.{◌≡◌, ◌^◌, ◌≤◌, ◌<◌};
 ghost use Rattle.word.specs.Word.{page_in, entry_in, layer_in, from_second, is_first, register_in, second_word, RecordWord, link_in, above_in, end_in, from_in, records_in, below_in, SpanWord, size_in, NoteWord, place_in, older_in};
 

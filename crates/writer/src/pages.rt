@@ -18,7 +18,7 @@ use value::{DIGEST, Digest};
 
 // The lengths of a table and of its first page, and the position in the row of that page's first entry, which is the end of its records where
 // it has no entries; or that there is no room for the table.
-#[derive(Drop)]
+#[derive(Clone, Copy)]
 pub struct Wrote {
     pub room: bool,
     pub len: usize,
@@ -27,7 +27,7 @@ pub struct Wrote {
 }
 
 // Of a gap: whether it has a page, the length of the table below it, and that page's digest; or that there is no room.
-#[derive(Drop)]
+#[derive(Clone, Copy)]
 struct Below {
     room: bool,
     linked: bool,
@@ -36,7 +36,7 @@ struct Below {
 }
 
 // Where a page's entries end in the output, and the length of the tables below them; or that there is no room.
-#[derive(Drop)]
+#[derive(Clone, Copy)]
 struct Laid {
     room: bool,
     at: usize,

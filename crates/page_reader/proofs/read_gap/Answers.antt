@@ -1,0 +1,19 @@
+use borrow.Author.Rules.{rules}
+use native.Mathlib.Omega.{arith}
+use Rattle.page_reader.proofs.Places.{digest_within, gap_none, gap_null, gap_stops, gap_there}
+use Rattle.page_reader.proofs.read_gap.Goals as goal
+
+pub returns-then-s-at : goal.returns-then-s-at
+returns-then-s-at c = search (rules, gap_none)
+
+pub returns-then-s-at-2 : goal.returns-then-s-at-2
+returns-then-s-at-2 c = search (rules, gap_null)
+
+pub overflow_add-result-in-Place : goal.overflow_add-result-in-Place
+overflow_add-result-in-Place c = omega (arith, digest_within _ _ _ _ _ _ _ c.read_link.ensures c.in-Place.is)
+
+pub returns-in-Place : goal.returns-in-Place
+returns-in-Place c = search (rules, gap_there)
+
+pub returns-in-PlaceStop : goal.returns-in-PlaceStop
+returns-in-PlaceStop c = search (rules, gap_stops)

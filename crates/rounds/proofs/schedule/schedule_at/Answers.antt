@@ -1,0 +1,18 @@
+use Rattle.std.proofs.Common.{◌-◌, refl, ◌∙◌, arith, length-set}
+use Rattle.rounds.proofs.Making.{made_none, made_more}
+use Rattle.rounds.proofs.ScheduleLaws.{lane}
+use Rattle.rounds.proofs.schedule.schedule_at.Goals as goal
+
+pub loop-t-init : goal.loop-t-init
+loop-t-init c = (omega arith, refl, made_none _ _)
+
+pub loop-t-preserved : goal.loop-t-preserved
+loop-t-preserved c =
+    let l = c.loop-t in (
+      omega arith,
+      length-set l.r l.t _ ∙ l.invariant.1,
+      made_more _ l.r l.t _ (omega arith) refl l.invariant.2,
+    )
+
+pub returns : goal.returns
+returns c m b = let l = c.loop-t in lane m _ l.r _ l.t (omega arith) (omega arith) l.invariant.1 l.invariant.2 b
