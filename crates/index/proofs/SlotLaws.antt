@@ -31,7 +31,7 @@ mutual
   slots_depths d at (page g es) =
       let below : ℕ = at + length (bytes_of_page (page g es)) in
       rw (
-        map-append,
+        map-append depth_of,
         add-one d,
         slots_depths_under (suc d) below g,
         slots_depths_from d at (at + first_entry es) (below + length (table_under g)) [] es,
@@ -46,7 +46,7 @@ mutual
   slots_depths_from d pg at below before end = refl
   slots_depths_from d pg at below before (entry e g es) =
       rw (
-        map-append,
+        map-append depth_of,
         add-one d,
         slots_depths_under (suc d) below g,
         slots_depths_from d pg (at + length_of_entry e g) (below + length (table_under g)) (record_of before e).key es,

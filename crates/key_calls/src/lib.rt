@@ -1,4 +1,6 @@
 // The key rule and layers: the calls `slash` and `layer`.
+#![tactic(auto)]
+
 mod rule; // the parts of the key rule
 pub mod layers; // the layer of a digest and of a string of bytes
 

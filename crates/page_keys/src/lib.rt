@@ -1,5 +1,7 @@
 // The keys of one page, in buffers: how a key is made from the one before it, and the tests on it. A key may be longer than its buffer: its
 // length is kept beside it. The functions are for the crates above and no public calls.
+#![tactic(auto)]
+
 ghost use Rattle.std.specs.Prelude.{◌≡◌, true, List, [], ℕ, ◌+◌, ◌≤◌, ◌<◌, min, length, take, drop};
 ghost use Rattle.limits.specs.Limits.{numbers, longest_key};
 ghost use Rattle.page.specs.Reading.{times, read};

@@ -1,4 +1,6 @@
 // What a path of pages says of a key. It is judged page by page, with the digest of one page at hand.
+#![tactic(auto)]
+
 mod entries; // the entries of one page: the tests of their keys, and the search among them
 mod pages; // the pages, one after the other
 

@@ -1,4 +1,6 @@
 // The form of a sequence of pages, and the places of its pages and of their links. The functions are for the crates above and no public calls.
+#![tactic(auto)]
+
 ghost use Rattle.std.specs.Prelude.{◌≡◌, ◌+◌, ◌^◌, ◌≤◌, ◌<◌, length, set};
 ghost use Rattle.sequence.specs.Noted.{SequenceSays};
 ghost use Rattle.sequence.specs.Inner.{LinkNoted, EntriesNoted};

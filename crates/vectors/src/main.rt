@@ -1,4 +1,6 @@
 // Writes the digests of the FIPS 180-4 messages and the published layer examples, a line for each.
+#![tactic(auto)]
+
 use answer::Answer;
 use libc::STDOUT_FILENO;
 

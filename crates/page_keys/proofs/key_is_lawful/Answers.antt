@@ -1,0 +1,18 @@
+use borrow.Author.Rules.{rules}
+use mathlib.Core.Path.{sym, ◌∙◌}
+use lib.Seq.{length-take-le}
+use Rattle.key.proofs.SlashLaws.{slash_done, slash_refused}
+use Rattle.page_keys.proofs.Tests.{key_too_long, key_tested}
+use Rattle.page_keys.proofs.key_is_lawful.Goals as goal
+
+pub returns-then-buffer-size : goal.returns-then-buffer-size
+returns-then-buffer-size c = search (rules, key_too_long)
+
+pub slice_bounds-slash-end : goal.slice_bounds-slash-end
+slice_bounds-slash-end c = sym (length-take-le _ _ (search rules))
+
+pub returns-in-Done : goal.returns-in-Done
+returns-in-Done c = key_tested _ _ (search rules) _ (sym (slash_done _ _ (sym c.slash.ensures ∙ c.in-Done.is)))
+
+pub returns-in-Refused : goal.returns-in-Refused
+returns-in-Refused c = key_tested _ _ (search rules) _ (sym (slash_refused _ _ (sym c.slash.ensures ∙ c.in-Refused.is)).0)

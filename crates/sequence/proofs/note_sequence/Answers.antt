@@ -1,0 +1,50 @@
+use borrow.Author.Rules.{rules}
+use Prim.Native.Nat.{◌+◌, ◌-◌, ◌≤◌}
+use native.Mathlib.Omega.{arith}
+use lib.ListN.{length}
+use Rattle.sequence.proofs.Sequences.{page_ahead_lem, page_inside, left_low, sequence_begins, sequence_ends, sequence_stops, sequence_goes_on}
+use Rattle.sequence.proofs.note_sequence.Goals as goal
+
+pub loop-at-init : goal.loop-at-init
+loop-at-init c = (search rules, search rules, search rules, search rules, search rules, search (rules, sequence_begins))
+
+pub note_links_after-before-requires : goal.note_links_after-before-requires
+note_links_after-before-requires c =
+    let l = c.loop-at in
+    let p = c.in-Page.p in
+    let ahead : l.at + p.count + 2 ≤ p.end = search (rules, page_ahead_lem) in
+    let within : p.end ≤ length c.args.s.now = search (rules, page_inside) in
+    (search rules, omega (arith, ahead, within, l.invariant.4, c.requires))
+
+pub note_link-count-requires : goal.note_link-count-requires
+note_link-count-requires c =
+    let l = c.loop-at in
+    let p = c.in-Page.p in
+    let ahead : l.at + p.count + 2 ≤ p.end = search (rules, page_ahead_lem) in
+    let within : p.end ≤ length c.args.s.now = search (rules, page_inside) in
+    let low : p.left ≤ length c.args.s.now = search (rules, left_low) in
+    (omega (arith, low, c.requires), omega (arith, ahead, within, l.invariant.4, c.note_links_after-before.ensures.few, c.requires))
+
+pub loop-at-smaller : goal.loop-at-smaller
+loop-at-smaller c =
+    let l = c.loop-at in
+    let p = c.in-Page.p in
+    let ahead : l.at + p.count + 2 ≤ p.end = search (rules, page_ahead_lem) in
+    let within : p.end ≤ length c.args.s.now = search (rules, page_inside) in
+    omega (arith, ahead, within)
+
+pub loop-at-preserved : goal.loop-at-preserved
+loop-at-preserved c =
+    let l = c.loop-at in
+    let p = c.in-Page.p in
+    let ahead : l.at + p.count + 2 ≤ p.end = search (rules, page_ahead_lem) in
+    let within : p.end ≤ length c.args.s.now = search (rules, page_inside) in
+    let few : c.note_link-count.result ≤ p.end =
+    omega (arith, ahead, l.invariant.4, c.note_links_after-before.ensures.few, c.note_link-count.ensures.few) in
+    (search rules, search rules, within, omega (arith, ahead, l.invariant.3), few, search (rules, sequence_goes_on))
+
+pub returns-in-PageStop : goal.returns-in-PageStop
+returns-in-PageStop c = search (rules, sequence_stops)
+
+pub returns : goal.returns
+returns c = search (rules, sequence_ends)
