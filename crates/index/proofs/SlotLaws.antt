@@ -65,7 +65,7 @@ mutual
   slots_places d at (page g es) =
       let below : ℕ = at + length (bytes_of_page (page g es)) in
       rw (
-        map-append,
+        map-append (λ (x : Slot). x.value),
         ← add_assoc at (length (bytes_of_page (page g es))) (length (table_under g)),
         slots_places_under (d + 1) below g,
         slots_places_from d at (at + first_entry es) (below + length (table_under g)) [] es,
@@ -80,7 +80,7 @@ mutual
   slots_places_from d pg at below before end = refl
   slots_places_from d pg at below before (entry e g es) =
       rw (
-        map-append,
+        map-append (λ (x : Slot). x.value),
         slots_places_under (d + 1) below g,
         slots_places_from d pg (at + length_of_entry e g) (below + length (table_under g)) (record_of before e).key es,
       )

@@ -12,4 +12,4 @@ pub returns : goal.returns
 returns c =
     let a = c.args in
     let w = c.walk_page in
-    walk_says a.s.now a.index.now a.row.now _ w.result w.new.1.0 w.new.1.1.0 w.new.1.1.1.0 w.ensures
+    walk_says a.s.now a.index.now a.row.now _ w.result w.new.index w.new.row w.new.last w.ensures
