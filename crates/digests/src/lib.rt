@@ -1,4 +1,6 @@
 // The digests of a register's pages: one pass over the row of its chains. The functions are for the crates above and no public calls.
+#![tactic(auto)]
+
 ghost use Rattle.std.specs.Prelude.{◌≡◌, ◌-◌, ◌*◌, ◌≤◌, length, take, drop};
 ghost use Rattle.bytestring.specs.Bytes.{equal};
 ghost use Rattle.value.specs.Value.{digest_in};

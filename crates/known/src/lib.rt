@@ -1,5 +1,7 @@
 // The digests of a register's pages: the root's, and the labels of its chains. A table of labels finds a digest by its first bits, so that
 // a page is not compared with every page. The functions are for the crates above and no public calls.
+#![tactic(auto)]
+
 ghost use Rattle.std.specs.Prelude.{◌≡◌, ◌+◌, ◌*◌, ◌^◌, ◌≤◌, ◌<◌, length};
 ghost use Rattle.value.specs.Value.{digest_length};
 ghost use Rattle.bytestring.specs.Bytes.{zeros};

@@ -1,4 +1,6 @@
 // The digest of a page that was written. Where the page stands in a lent register, the link that leads to it there has the digest.
+#![tactic(auto)]
+
 ghost use Rattle.std.specs.Prelude.{◌≡◌, ◌*◌, ◌/◌, ◌≤◌, ◌<◌, length, get_or};
 ghost use Rattle.word.specs.Word.{page_in};
 ghost use Rattle.fips180.specs.Hash.{sha256};

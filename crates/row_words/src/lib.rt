@@ -1,4 +1,6 @@
 // Words of a row: one more, one less, and those of a second register. The functions are for the crates above and no public calls.
+#![tactic(auto)]
+
 ghost use Rattle.std.specs.Prelude.{◌≡◌, true, ◌≤◌, ◌<◌, length};
 ghost use Rattle.value.specs.Value.{is_value};
 ghost use Rattle.key.specs.Key.{lawful};
