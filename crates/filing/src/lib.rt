@@ -1,5 +1,7 @@
 // Pages filed under their digests: each page is hashed once, in sequence, and joined to the links that lead to it. The functions are for the
 // crates above and no public calls.
+#![tactic(auto)]
+
 ghost use Rattle.std.specs.Prelude.{◌≡◌, ◌^◌, ◌≤◌, ◌<◌, length};
 ghost use Rattle.bytestring.specs.Bytes.{equal};
 ghost use Rattle.value.specs.Value.{digest_length};

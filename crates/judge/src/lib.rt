@@ -1,6 +1,8 @@
 // Numbers 1 to 10 of a byte string. The walk reads its form and notes its rows; the layers of its keys and the digests of its pages are
 // then passes over these rows, so that nothing is hashed of what is refused before. The functions are for the crates above and no public
 // calls.
+#![tactic(auto)]
+
 mod layers; // the layers of the keys
 mod prefixes; // the prefix lengths, where keys may be long
 

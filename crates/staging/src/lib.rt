@@ -1,4 +1,6 @@
 // The pages of an accepted register by words that name their digests. The functions are for the crates above and no public calls.
+#![tactic(auto)]
+
 ghost use Rattle.std.specs.Prelude.{◌≡◌, List, ℕ, ◌+◌, ◌*◌, ◌≤◌, ◌<◌, length};
 ghost use Rattle.limits.specs.Limits.{most};
 ghost use Rattle.fips180.specs.Hash.{sha256};

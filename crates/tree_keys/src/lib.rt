@@ -1,4 +1,6 @@
 // The first and the last key of the tree under a filed page. The functions are for the crates above and no public calls.
+#![tactic(auto)]
+
 ghost use Rattle.std.specs.Prelude.{◌≡◌, List, ℕ, ◌+◌, ◌*◌, ◌≤◌, ◌<◌, length, take, drop, get_or};
 ghost use Rattle.limits.specs.Limits.{longest, longest_key};
 ghost use Rattle.page.specs.Page.{RawPage};

@@ -1,4 +1,6 @@
 // The writer: the table of a row of records. The functions are for the crates above and no public calls.
+#![tactic(auto)]
+
 mod pages; // the recursion over the pages
 pub mod refusal; // a refusal of a writing call
 

@@ -1,0 +1,12 @@
+use Rattle.judge.proofs.PrefixPages.{page_starts, page_tested, page_not_there}
+use borrow.Author.Rules.{rules}
+use Rattle.judge.proofs.prefixes.page_prefixes.Goals as goal
+
+pub prefixes_fit-requires : goal.prefixes_fit-requires
+prefixes_fit-requires c = (search rules, search (rules, page_starts))
+
+pub returns-in-Page : goal.returns-in-Page
+returns-in-Page c = search (rules, page_tested)
+
+pub returns-in-PageStop : goal.returns-in-PageStop
+returns-in-PageStop c = search (rules, page_not_there)

@@ -1,0 +1,18 @@
+use borrow.Author.Rules.{rules}
+use native.Mathlib.Omega.{arith}
+use Rattle.bytestring.proofs.Tools.{bytes_of_lem}
+use Rattle.tree_keys.proofs.Firsts.{no_entries, first_lost, first_located}
+use Rattle.tree_keys.proofs.own_first.Goals as goal
+
+pub returns-then-count-eq0 : goal.returns-then-count-eq0
+returns-then-count-eq0 c = search (rules, no_entries)
+
+pub returns-in-Entry : goal.returns-in-Entry
+returns-in-Entry c =
+    let slice = bytes_of_lem c.args.sequence.now (λ i h. omega (arith, c.type_inv.sequence i)) in
+    search (rules, first_located, slice)
+
+pub returns-in-EntryStop : goal.returns-in-EntryStop
+returns-in-EntryStop c =
+    let slice = bytes_of_lem c.args.sequence.now (λ i h. omega (arith, c.type_inv.sequence i)) in
+    search (rules, first_lost, slice)

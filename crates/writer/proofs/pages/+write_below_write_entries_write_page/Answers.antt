@@ -1,0 +1,339 @@
+use mathlib.Core.Path.{ap}
+use mathlib.Core.Bool.{not}
+use Prim.Native.Nat.{◌+◌, ◌-◌, ◌*◌}
+use mathlib.Core.Path.{refl, ◌∙◌}
+use native.Mathlib.Omega.{arith}
+use native.Mathlib.Nat.{le_refl}
+use Rattle.layout.specs.Build.{record_in}
+use Rattle.layout.proofs.Bounds.{next_within, next_fits, word_fits, word_within, range_falls}
+use Rattle.layout.proofs.Holding.{same_memory}
+use Rattle.writer.proofs.Falling.{one_below, two_below, next_below}
+use Rattle.writer.proofs.Gaps.{no_room, own_fits, gap_layer, gap_nothing, gap_below}
+use Rattle.writer.proofs.Turns.{ready_within, still_holding, starts, out_length, tail_within, tail_grown, limit_within, turn_length, laid_all, turn_done, turn_refused}
+use Rattle.writer.proofs.Composing.{own_lacks, Begun, left_lacks, tail_fits, first_length, start_room, foot_within, places, Entered, entries_lack, at_within, whole_fits, end_room, end_length, finishes}
+use Prim.Native.Nat.{ℕ}
+use Rattle.writer.proofs.pages.+write_below_write_entries_write_page.Goals as goal
+
+begun : (t : ℕ) (c : write-page-lts.After-write-below (write-page-claims t) (write_page_at t) write-page.Post)
+    → let a = c.before.before.before.before.before.before.before.before.before.before.before.before.before.before.before.before.before.before.before.before.args in
+    Begun a.s.now a.u.now a.row.now a.lo a.hi a.layer a.out.now c.before.before.before.before.before.before.before.before.before.measure.result c.write-below.new.1.1.1.1.1.1.1.1.1.1.0 c.write-below.result
+begun t c = record { sized = c.before.before.before.before.before.before.before.before.before.measure.ensures.0; room = c.before.before.before.before.if1.false; gap = c.write-below.ensures.0 }
+
+entered : (t : ℕ) (c : write-page-lts.After-write-entries (write-page-claims t) (write_page_at t) write-page.Post)
+    → let a = c.before.before.before.before.before.before.before.before.before.before.before.before.before.before.before.before.before.before.before.before.before.before.before.before.before.before.before.before.before.before.before.before.before.before.before.before.before.before.before.args in
+    let w = c.before.before.before.before.before.before.before.before.before.before.before.before.before.before.before.before.before.before.before.write-below in
+    Entered a.s.now a.u.now a.row.now a.lo a.hi a.layer a.out.now c.before.before.before.before.before.before.before.before.before.before.before.before.before.before.before.before.before.before.before.before.before.before.before.before.before.before.before.before.measure.result w.new.1.1.1.1.1.1.1.1.1.1.0 w.result
+    c.write_entries.new.1.1.1.1.1.1.1.1.1.1.0 c.write_entries.result
+entered t c =
+    let b = begun t c.before.before.before.before.before.before.before.before.before.before.before.before.before.before.before.before.before.before.before in
+    let x = c.before.before.before.before.before.before.before.before.before.write-page-start in
+    record {
+      begun = b;
+      fine = c.before.before.before.before.before.before.before.before.before.before.before.if2.false;
+      x = x.new.0;
+      start = x.result;
+      is = x.ensures.0;
+      place = x.ensures.1;
+      same = x.auto.0 ∙ first_length b c.before.before.before.before.before.before.before.before.before.before.before.if2.false;
+      kept = c.write_entries.auto.1.1.1.1.1.1.1.1.1.1.0 ∙ x.auto.0 ∙ first_length b c.before.before.before.before.before.before.before.before.before.before.before.if2.false;
+      laid = rw c.before.before.page-end-length.ensures.0 at c.write_entries.ensures.0;
+    }
+
+pub write_entries-loop-i-init : goal.write_entries-loop-i-init
+write_entries-loop-i-init t c =
+    let p = c.requires in
+    starts p.0 p.3 p.4 p.5 p.6
+
+pub write_entries-overflow_add-i : goal.write_entries-overflow_add-i
+write_entries-overflow_add-i t c = next_fits c.loop-i-test.true c.requires.0.range.few
+
+pub write_entries-run_end-next-requires : goal.write_entries-run_end-next-requires
+write_entries-run_end-next-requires t c = (next_within c.loop-i-test.true, c.requires.0.range.room)
+
+pub write_entries-overflow_add-i-in-loop-i : goal.write_entries-overflow_add-i-in-loop-i
+write_entries-overflow_add-i-in-loop-i t c = next_fits c.loop-i-test.true c.requires.0.range.few
+
+pub write_entries-slice_bounds-write_below-count : goal.write_entries-slice_bounds-write_below-count
+write_entries-slice_bounds-write_below-count t c = tail_within c.loop-i.invariant
+
+pub write_entries-slice_bounds-write_below-start : goal.write_entries-slice_bounds-write_below-start
+write_entries-slice_bounds-write_below-start t c = tail_within c.loop-i.invariant
+
+pub write_entries-slice_bounds-write_below-end : goal.write_entries-slice_bounds-write_below-end
+write_entries-slice_bounds-write_below-end t c = le_refl _
+
+pub write_entries-write_below-w-requires : goal.write_entries-write_below-w-requires
+write_entries-write_below-w-requires t c =
+    let l = c.loop-i in
+    let p = c.requires in
+    let r = c.run_end-next in
+    (one_below c.MEASURE, (ready_within p.0 (l.i + 1) r.result l.invariant.holding.memory l.invariant.holding.slots r.ensures.from r.ensures.to, p.1, p.2))
+
+pub write_entries-offset_bounds-row-i : goal.write_entries-offset_bounds-row-i
+write_entries-offset_bounds-row-i t c = word_fits c.loop-i-test.true c.requires.0.range.few
+
+pub write_entries-bounds-row-i : goal.write_entries-bounds-row-i
+write_entries-bounds-row-i t c = word_within c.loop-i-test.true c.requires.0.range.room
+
+pub write_entries-slice_bounds-write_record-count : goal.write_entries-slice_bounds-write_record-count
+write_entries-slice_bounds-write_record-count t c = c.loop-i.invariant.inside
+
+pub write_entries-slice_bounds-write_record-start : goal.write_entries-slice_bounds-write_record-start
+write_entries-slice_bounds-write_record-start t c = c.loop-i.invariant.inside
+
+pub write_entries-slice_bounds-write_record-end-in-loop-i : goal.write_entries-slice_bounds-write_record-end-in-loop-i
+write_entries-slice_bounds-write_record-end-in-loop-i t c = limit_within c.loop-i.invariant c.write_below-w.new.out c.write_below-w.auto.out
+
+pub write_entries-write_record-added-requires : goal.write_entries-write_record-added-requires
+write_entries-write_record-added-requires t c =
+    let l = c.loop-i in
+    let r = c.requires.0.range in
+    let w = c.write_below-w in (
+      record { first = r.first; second = r.second; stands = r.stands l.i c.loop-i-test.true },
+      still_holding l.invariant.holding w.ensures.memory w.auto.notes,
+    )
+
+pub write_entries-shape_of-keys-then-not-w-added : goal.write_entries-shape_of-keys-then-not-w-added
+write_entries-shape_of-keys-then-not-w-added t c =
+    c.write_record-added.auto.keys ∙ c.write_below-w.auto.keys ∙ (same_memory c.requires.0 c.loop-i.invariant.holding).0
+
+pub write_entries-shape_of-notes-then-not-w-added : goal.write_entries-shape_of-notes-then-not-w-added
+write_entries-shape_of-notes-then-not-w-added t c =
+    c.write_record-added.auto.notes ∙ c.write_below-w.auto.notes ∙ (same_memory c.requires.0 c.loop-i.invariant.holding).1
+
+pub write_entries-shape_of-out-then-not-w-added : goal.write_entries-shape_of-out-then-not-w-added
+write_entries-shape_of-out-then-not-w-added t c =
+    turn_length c.loop-i.invariant c.write_below-w.new.out c.write_record-added.new.out c.write_below-w.auto.out c.write_record-added.auto.out
+
+pub write_entries-returns-then-not-w-added : goal.write_entries-returns-then-not-w-added
+write_entries-returns-then-not-w-added t c =
+    let l = c.loop-i in
+    let h = c.loop-i-test.true in
+    let w = c.write_below-w in
+    let d = c.write_record-added.ensures in record {
+      entries = turn_refused l.invariant h (c.requires.0.range.stands l.i h) c.run_end-next.ensures w.ensures.tables w.auto.out d _ (ap not c.if-not-w-added.true);
+      memory = d.memory;
+    }
+
+pub write_entries-overflow_add-at : goal.write_entries-overflow_add-at
+write_entries-overflow_add-at t c =
+    let l = c.loop-i in
+    let h = c.loop-i-test.true in
+    let w = c.write_below-w in
+    let g = turn_done l.invariant h (c.requires.0.range.stands l.i h) c.run_end-next.ensures w.ensures.tables w.auto.out c.write_record-added.ensures (ap not c.if-not-w-added.false) in
+    omega (arith, g.inside, c.requires.5, c.requires.6, c.WELL_FORMED.1.1.1.1.1.1.1.1.1.1.0)
+
+pub write_entries-overflow_add-tail : goal.write_entries-overflow_add-tail
+write_entries-overflow_add-tail t c =
+    let l = c.loop-i in
+    let h = c.loop-i-test.true in
+    let w = c.write_below-w in
+    let g = turn_done l.invariant h (c.requires.0.range.stands l.i h) c.run_end-next.ensures w.ensures.tables w.auto.out c.write_record-added.ensures (ap not c.if-not-w-added.false) in
+    omega (arith, g.fits, c.WELL_FORMED.1.1.1.1.1.1.1.1.1.1.0)
+
+pub write_entries-loop-i-smaller : goal.write_entries-loop-i-smaller
+write_entries-loop-i-smaller t c = range_falls c.loop-i-test.true c.run_end-next.ensures.from c.run_end-next.ensures.to
+
+pub write_entries-loop-i-preserved : goal.write_entries-loop-i-preserved
+write_entries-loop-i-preserved t c =
+    let l = c.loop-i in
+    let h = c.loop-i-test.true in
+    let w = c.write_below-w in
+    turn_done l.invariant h (c.requires.0.range.stands l.i h) c.run_end-next.ensures w.ensures.tables w.auto.out c.write_record-added.ensures (ap not c.if-not-w-added.false)
+
+pub write_entries-overflow_sub-result : goal.write_entries-overflow_sub-result
+write_entries-overflow_sub-result t c = tail_grown c.loop-i.invariant
+
+pub write_entries-shape_of-keys : goal.write_entries-shape_of-keys
+write_entries-shape_of-keys t c = (same_memory c.requires.0 c.loop-i.invariant.holding).0
+
+pub write_entries-shape_of-notes : goal.write_entries-shape_of-notes
+write_entries-shape_of-notes t c = (same_memory c.requires.0 c.loop-i.invariant.holding).1
+
+pub write_entries-shape_of-out : goal.write_entries-shape_of-out
+write_entries-shape_of-out t c = out_length c.loop-i.invariant
+
+pub write_entries-returns : goal.write_entries-returns
+write_entries-returns t c =
+    record {
+      entries = laid_all c.loop-i.invariant c.loop-i-test.false;
+      memory = c.loop-i.invariant.holding.memory;
+    }
+
+pub write_below-has_page-requires : goal.write_below-has_page-requires
+write_below-has_page-requires t c = c.requires.0.order
+
+pub write_below-returns-then-not-has_page : goal.write_below-returns-then-not-has_page
+write_below-returns-then-not-has_page t c =
+    let a = c.args in
+    let has = c.has_page in
+    let nothing = c.nothing_below in record {
+      tables = gap_nothing a.layer (record_in a.s.now a.u.now a.row.now) a.lo (a.hi - a.lo) a.out.now a.out.now has.result has.ensures (ap not c.if-not-has_page.true) nothing.result nothing.ensures;
+      memory = c.requires.0.memory;
+    }
+
+pub write_below-overflow_sub-layer : goal.write_below-overflow_sub-layer
+write_below-overflow_sub-layer t c =
+    let a = c.args in
+    gap_layer a.layer (record_in a.s.now a.u.now a.row.now) a.lo (a.hi - a.lo) a.out.now a.out.now c.has_page.result c.has_page.ensures (ap not c.if-not-has_page.false)
+
+pub write_below-write_page-w-requires : goal.write_below-write_page-w-requires
+write_below-write_page-w-requires t c =
+    let a = c.args in
+    let some = gap_layer a.layer (record_in a.s.now a.u.now a.row.now) a.lo (a.hi - a.lo) a.out.now a.out.now c.has_page.result c.has_page.ensures (ap not c.if-not-has_page.false) in
+    (omega (arith, c.MEASURE, some), c.requires)
+
+pub write_below-below_of-requires : goal.write_below-below_of-requires
+write_below-below_of-requires t c =
+    let p = c.requires in
+    let w = c.write_page-w in
+    (p.1, p.2, p.0.range.room, own_fits w.ensures.table w.auto.out)
+
+pub write_below-shape_of-keys : goal.write_below-shape_of-keys
+write_below-shape_of-keys t c = c.write_page-w.auto.keys
+
+pub write_below-shape_of-notes : goal.write_below-shape_of-notes
+write_below-shape_of-notes t c = c.write_page-w.auto.notes
+
+pub write_below-shape_of-out : goal.write_below-shape_of-out
+write_below-shape_of-out t c = c.write_page-w.auto.out
+
+pub write_below-returns : goal.write_below-returns
+write_below-returns t c =
+    let a = c.args in
+    let has = c.has_page in
+    let w = c.write_page-w in record {
+      tables = gap_below a.layer (record_in a.s.now a.u.now a.row.now) a.lo (a.hi - a.lo) a.out.now _ has.result has.ensures (ap not c.if-not-has_page.false) (a.layer - 1) refl w.ensures.table c.below_of.result c.below_of.ensures;
+      memory = w.ensures.memory;
+    }
+
+pub write_page-measure-size-requires : goal.write_page-measure-size-requires
+write_page-measure-size-requires t c = c.requires.0
+
+pub write_page-shape_of-keys-then-out-own : goal.write_page-shape_of-keys-then-out-own
+write_page-shape_of-keys-then-out-own t c = c.measure-size.auto.keys
+
+pub write_page-shape_of-notes-then-out-own : goal.write_page-shape_of-notes-then-out-own
+write_page-shape_of-notes-then-out-own t c = c.measure-size.auto.notes
+
+pub write_page-returns-then-out-own : goal.write_page-returns-then-out-own
+write_page-returns-then-out-own t c =
+    let m = c.measure-size in record {
+      table = no_room _ c.args.out.now _ _ (own_lacks c.args.out.now m.ensures.size c.if-out-own.true) c.no_room.ensures;
+      memory = m.ensures.memory;
+    }
+
+pub write_page-slice_bounds-write_below-count : goal.write_page-slice_bounds-write_below-count
+write_page-slice_bounds-write_below-count t c = c.if-out-own.false
+
+pub write_page-slice_bounds-write_below-start : goal.write_page-slice_bounds-write_below-start
+write_page-slice_bounds-write_below-start t c = c.if-out-own.false
+
+pub write_page-slice_bounds-write_below-end : goal.write_page-slice_bounds-write_below-end
+write_page-slice_bounds-write_below-end t c = le_refl _
+
+pub write_page-write_below-left-requires : goal.write_page-write_below-left-requires
+write_page-write_below-left-requires t c =
+    let p = c.requires in
+    let m = c.measure-size in
+    let run = m.ensures.size.run in
+    (two_below c.MEASURE, (ready_within p.0 c.args.lo m.result.first m.ensures.memory (m.auto.notes ∙ p.0.slots) run.from run.to, p.1, p.2))
+
+pub write_page-shape_of-keys-then-not-left : goal.write_page-shape_of-keys-then-not-left
+write_page-shape_of-keys-then-not-left t c = c.write_below-left.auto.keys ∙ c.measure-size.auto.keys
+
+pub write_page-shape_of-notes-then-not-left : goal.write_page-shape_of-notes-then-not-left
+write_page-shape_of-notes-then-not-left t c = c.write_below-left.auto.notes ∙ c.measure-size.auto.notes
+
+pub write_page-returns-then-not-left : goal.write_page-returns-then-not-left
+write_page-returns-then-not-left t c =
+    record {
+      table = no_room _ c.args.out.now _ _ (left_lacks (begun t w) c.if-not-left.true) c.no_room-then-not-left.ensures;
+      memory = c.write_below-left.ensures.memory;
+    }
+
+pub write_page-write_page_start-start-requires : goal.write_page-write_page_start-start-requires
+write_page-write_page_start-start-requires t c = start_room (begun t c) c.if-not-left.false
+
+pub write_page-overflow_sub-own : goal.write_page-overflow_sub-own
+write_page-overflow_sub-own t c = foot_within (begun t c) c.if-not-left.false _ c.page_end_length.ensures.0
+
+pub write_page-overflow_add-own : goal.write_page-overflow_add-own
+write_page-overflow_add-own t c = omega (arith, tail_fits (begun t c) c.if-not-left.false, c.WELL_FORMED.1.1.1.1.1.1.1.1.1.1.0)
+
+pub write_page-write_entries-laid-requires : goal.write_page-write_entries-laid-requires
+write_page-write_entries-laid-requires t c =
+    let p = c.requires in
+    let b = begun t c in
+    let e = c.if-not-left.false in
+    let w = c.write_below-left in
+    let x = c.write_page_start-start in
+    let run = b.sized.run in
+    let places = places b e x.result c.page_end_length.result x.new.out x.ensures.count c.page_end_length.ensures.0 (x.auto.out ∙ first_length b e) in (
+      next_below (3 * c.args.layer) c.MEASURE,
+      (
+        ready_within p.0 c.measure-size.result.first c.args.hi w.ensures.memory (w.auto.notes ∙ c.measure-size.auto.notes ∙ p.0.slots) run.to (le_refl _),
+        p.1,
+        p.2,
+        run.stop,
+        places.0,
+        places.1,
+        places.2,
+      ),
+    )
+
+pub write_page-shape_of-keys-then-not-laid : goal.write_page-shape_of-keys-then-not-laid
+write_page-shape_of-keys-then-not-laid t c = c.write_entries-laid.auto.keys ∙ c.write_below-left.auto.keys ∙ c.measure-size.auto.keys
+
+pub write_page-shape_of-notes-then-not-laid : goal.write_page-shape_of-notes-then-not-laid
+write_page-shape_of-notes-then-not-laid t c = c.write_entries-laid.auto.notes ∙ c.write_below-left.auto.notes ∙ c.measure-size.auto.notes
+
+pub write_page-shape_of-out-then-not-laid : goal.write_page-shape_of-out-then-not-laid
+write_page-shape_of-out-then-not-laid t c = (entered t c).kept
+
+pub write_page-returns-then-not-laid : goal.write_page-returns-then-not-laid
+write_page-returns-then-not-laid t c =
+    record {
+      table = no_room _ c.args.out.now _ _ (entries_lack (entered t w) c.if-not-laid.true) c.no_room-then-not-laid.ensures;
+      memory = c.write_entries-laid.ensures.memory;
+    }
+
+pub write_page-slice_bounds-write_page_end-count : goal.write_page-slice_bounds-write_page_end-count
+write_page-slice_bounds-write_page_end-count t c = at_within (entered t c) c.if-not-laid.false
+
+pub write_page-slice_bounds-write_page_end-start : goal.write_page-slice_bounds-write_page_end-start
+write_page-slice_bounds-write_page_end-start t c = at_within (entered t c) c.if-not-laid.false
+
+pub write_page-slice_bounds-write_page_end-end : goal.write_page-slice_bounds-write_page_end-end
+write_page-slice_bounds-write_page_end-end t c = le_refl _
+
+pub write_page-write_page_end-requires : goal.write_page-write_page_end-requires
+write_page-write_page_end-requires t c = end_room (entered t c) c.if-not-laid.false
+
+pub write_page-overflow_add-page : goal.write_page-overflow_add-page
+write_page-overflow_add-page t c =
+    omega (arith, whole_fits (entered t c) c.if-not-laid.false, c.write_page_end.ensures.count, c.WELL_FORMED.1.1.1.1.1.1.1.1.1.1.0)
+
+pub write_page-overflow_add-result : goal.write_page-overflow_add-result
+write_page-overflow_add-result t c =
+    omega (arith, whole_fits (entered t c) c.if-not-laid.false, c.write_page_end.ensures.count, c.WELL_FORMED.1.1.1.1.1.1.1.1.1.1.0)
+
+pub write_page-overflow_add-result-2 : goal.write_page-overflow_add-result-2
+write_page-overflow_add-result-2 t c =
+    omega (arith, whole_fits (entered t c) c.if-not-laid.false, c.write_page_end.ensures.count, c.WELL_FORMED.1.1.1.1.1.1.1.1.1.1.0)
+
+pub write_page-shape_of-keys : goal.write_page-shape_of-keys
+write_page-shape_of-keys t c = c.write_entries-laid.auto.keys ∙ c.write_below-left.auto.keys ∙ c.measure-size.auto.keys
+
+pub write_page-shape_of-notes : goal.write_page-shape_of-notes
+write_page-shape_of-notes t c = c.write_entries-laid.auto.notes ∙ c.write_below-left.auto.notes ∙ c.measure-size.auto.notes
+
+pub write_page-shape_of-out : goal.write_page-shape_of-out
+write_page-shape_of-out t c = end_length (entered t c) c.if-not-laid.false c.write_page_end.new.out c.write_page_end.auto.out
+
+pub write_page-returns : goal.write_page-returns
+write_page-returns t c =
+    let z = c.write_page_end in record {
+      table = finishes (entered t w) c.if-not-laid.false z.new.out z.ensures.output z.result z.ensures.count;
+      memory = c.write_entries-laid.ensures.memory;
+    }

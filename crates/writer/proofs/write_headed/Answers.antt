@@ -1,0 +1,94 @@
+use Prim.Native.Nat.{◌*◌}
+use mathlib.Core.Path.{sym, ◌∙◌}
+use native.Mathlib.Omega.{arith}
+use lib.Seq.{length-take-le}
+use Rattle.tree.specs.Table.{tree_of_set, table_of}
+use Rattle.row.specs.Row.{records_of}
+use Rattle.row.proofs.Rows.{records_length}
+use Rattle.labels.proofs.Labels.{each_labelled}
+use Rattle.layout.proofs.RowRecords.{row_top, row_top_small}
+use Rattle.writer.proofs.Whole.{used_length, WrittenInto, row_written, len_small, len_fits, root_fits, output_is}
+use Rattle.writer.proofs.Heads.{head_kept, head_moved}
+use Rattle.writer.proofs.write_headed.Reads as reads
+use Rattle.layout.proofs.runs.top_layer.Reads as top-layer-reads
+use Rattle.writer.proofs.finish.Reads as finish-reads
+use Rattle.writer.proofs.refusal.refuse_headed.Reads as refuse-headed-reads
+use Rattle.writer.proofs.used.Reads as used-reads
+use Rattle.writer.proofs.write_pages.Reads as write-pages-reads
+use Rattle.writer.proofs.written_digest.Reads as written-digest-reads
+use Rattle.writer.proofs.write_headed.Goals as goal
+
+-- the pages are written into the front of the output
+abbrev Pages : Type 0
+Pages = lts.After-write-pages (top-layer-reads.Asked, top-layer-reads.Learnt, used-reads.Asked, used-reads.Learnt, write-pages-reads.Asked, write-pages-reads.Learnt, refuse-headed-reads.Asked, refuse-headed-reads.Learnt, written-digest-reads.Asked, written-digest-reads.Learnt, finish-reads.Asked, finish-reads.Learnt) reads.Pre reads.Post
+
+into : (c : Pages)
+    → let a = c.before.before.before.before.before.before.before.before.before.before.before.before.before.args in
+    WrittenInto (tree_of_set (records_of a.s.now a.u.now a.row.now a.n)) a.out.now c.before.before.before.before.used.result c.write-pages.new.1.1.1.1.1.1.1.0 c.write-pages.result
+into c =
+    let start = c.before.before.before.before.before.before.before.before.before.before.before.before.before in
+    let top = c.before.before.before.before.before.top-layer in
+    row_written start.requires.0 top.result (top.ensures start.args.s.now start.args.u.now) c.before.before.before.before.used.ensures c.write-pages.auto.1.1.1.1.1.1.1.0 c.write-pages.ensures
+
+pub slice_bounds-labels-end : goal.slice_bounds-labels-end
+slice_bounds-labels-end c = sym (length-take-le (2 * c.args.first_count) c.args.first-chains.now c.requires.1.room)
+
+pub slice_bounds-others-end : goal.slice_bounds-others-end
+slice_bounds-others-end c = sym (length-take-le (2 * c.args.second-count) c.args.second-chains.now c.requires.2.room)
+
+pub slice_bounds-write_pages-end-2 : goal.slice_bounds-write_pages-end-2
+slice_bounds-write_pages-end-2 c =
+    let used = c.used-room in
+    sym (used_length c.args.out.now used.result used.ensures)
+
+pub write_pages-w-requires : goal.write_pages-w-requires
+write_pages-w-requires c =
+    let given = c.requires in
+    (given.0, each_labelled given.1, each_labelled given.2)
+
+pub returns-then-not-w : goal.returns-then-not-w
+unfolding table_of
+returns-then-not-w c =
+    let a = c.args in
+    let none = c.if-not-w.true in
+    let refused = (c.refuse_headed.ensures.headed, c.refuse_headed.ensures.output) in record {
+      headed = refused.0 ∙ head_kept (records_of a.s.now a.u.now a.row.now a.n) a.head (into wrote) none;
+      output = refused.1 ∙ rw none at (output_is (into wrote));
+    }
+
+pub slice_bounds-written_digest-end : goal.slice_bounds-written_digest-end
+slice_bounds-written_digest-end c = root_fits (into c) (c.if-not-w.false)
+
+pub slice_bounds-written_digest-end-2 : goal.slice_bounds-written_digest-end-2
+slice_bounds-written_digest-end-2 c = sym (length-take-le _ _ (root_fits (into c) (c.if-not-w.false)))
+
+pub written_digest-digest-requires : goal.written_digest-digest-requires
+written_digest-digest-requires c =
+    let given = c.requires in
+    (each_labelled given.1, each_labelled given.2, given.0.room, given.3)
+
+pub overflow_cast-count : goal.overflow_cast-count
+overflow_cast-count c = omega (arith, c.requires.0.few)
+
+pub overflow_cast-layer : goal.overflow_cast-layer
+overflow_cast-layer c =
+    let top = c.top_layer-top in
+    omega (arith, row_top_small c.requires.0 top.result (top.ensures c.args.s.now c.args.u.now))
+
+pub finish-answer-requires : goal.finish-answer-requires
+finish-answer-requires c e =
+    let w = into c in
+    let fits = c.if-not-w.false in
+    (len_fits w fits, len_small w fits)
+
+pub returns : goal.returns
+unfolding table_of
+returns c =
+    let a = c.args in
+    let top = c.top_layer-top in
+    let fits = c.if-not-w.false in
+    let end = (c.finish-answer.ensures.answer, c.finish-answer.ensures.output) in record {
+      headed = head_moved (records_of a.s.now a.u.now a.row.now a.n) a.head (into wrote) fits end.0 (sym (records_length a.s.now a.u.now a.row.now a.n c.requires.0.room))
+          (row_top c.requires.0 top.result (top.ensures a.s.now a.u.now)) c.written_digest-digest.ensures;
+      output = end.1 ∙ rw fits at (output_is (into wrote));
+    }
