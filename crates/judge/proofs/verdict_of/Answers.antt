@@ -66,7 +66,7 @@ returns-then-not-note_layers c =
     let pre = c.requires in
     let bytes = bytes_of_lem a.s.now (λ i h. omega (arith, c.type_inv.s i)) in
     let y = c.note_layers in
-    not_level a.s.now a.index.now a.row.now a.st bytes pre.0 pre.3 (omega (arith, c.if-st-s)) (omega (arith, c.if-st-gt-MOST)) c.prefixes_right.result c.prefixes_right.ensures (ap not c.if-not-prefixes_right.false) c.if-not-st.false c.if-not-st-2.false c.if-not-st-3.false pre.1 y.result y.new.index y.ensures c.if-not-note_layers.true
+    not_level a.s.now a.index.now a.row.now a.st bytes pre.0 pre.3 (omega (arith, c.if-st-s)) (omega (arith, c.if-st-gt-MOST)) c.prefixes_right.result c.prefixes_right.ensures (ap not c.if-not-prefixes_right.false) c.if-not-st.false c.if-not-st-2.false c.if-not-st-3.false pre.1 y.result y.new.index y.ensures (ap not c.if-not-note_layers.true)
 
 pub digests_hold-requires : goal.digests_hold-requires
 digests_hold-requires c =
@@ -81,7 +81,7 @@ returns-then-not-digests_hold c =
     let bytes = bytes_of_lem a.s.now (λ i h. omega (arith, c.type_inv.s i)) in
     let y = c.note_layers in
     let z = c.digests_hold in
-    wrong_digest a.s.now a.index.now a.row.now a.st bytes pre.0 pre.3 (omega (arith, c.if-st-s)) (omega (arith, c.if-st-gt-MOST)) c.prefixes_right.result c.prefixes_right.ensures (ap not c.if-not-prefixes_right.false) c.if-not-st.false c.if-not-st-2.false c.if-not-st-3.false pre.1 y.result y.new.index y.ensures c.if-not-note_layers.false pre.2 z.result z.ensures c.if-not-digests_hold.true
+    wrong_digest a.s.now a.index.now a.row.now a.st bytes pre.0 pre.3 (omega (arith, c.if-st-s)) (omega (arith, c.if-st-gt-MOST)) c.prefixes_right.result c.prefixes_right.ensures (ap not c.if-not-prefixes_right.false) c.if-not-st.false c.if-not-st-2.false c.if-not-st-3.false pre.1 y.result y.new.index y.ensures (ap not c.if-not-note_layers.false) pre.2 z.result z.ensures (ap not c.if-not-digests_hold.true)
 
 pub returns : goal.returns
 returns c =
@@ -90,4 +90,4 @@ returns c =
     let bytes = bytes_of_lem a.s.now (λ i h. omega (arith, c.type_inv.s i)) in
     let y = c.note_layers in
     let z = c.digests_hold in
-    accepted_all a.s.now a.index.now a.row.now a.st bytes pre.0 pre.3 (omega (arith, c.if-st-s)) (omega (arith, c.if-st-gt-MOST)) c.prefixes_right.result c.prefixes_right.ensures (ap not c.if-not-prefixes_right.false) c.if-not-st.false c.if-not-st-2.false c.if-not-st-3.false pre.1 y.result y.new.index y.ensures c.if-not-note_layers.false pre.2 z.result z.ensures y.auto.index c.if-not-digests_hold.false
+    accepted_all a.s.now a.index.now a.row.now a.st bytes pre.0 pre.3 (omega (arith, c.if-st-s)) (omega (arith, c.if-st-gt-MOST)) c.prefixes_right.result c.prefixes_right.ensures (ap not c.if-not-prefixes_right.false) c.if-not-st.false c.if-not-st-2.false c.if-not-st-3.false pre.1 y.result y.new.index y.ensures (ap not c.if-not-note_layers.false) pre.2 z.result z.ensures y.auto.index (ap not c.if-not-digests_hold.false)

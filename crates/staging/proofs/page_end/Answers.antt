@@ -18,7 +18,7 @@ returns-then-number-above_in c =
     let a = c.args in
     let h = c.if-word-lt-FROM_CHAINS.false in
     c.end_in.ensures
-    ∙ last_end a.chains.now a.word h a.root-end (c.if-number-above_in.true ∙ c.above_in.ensures)
+    ∙ last_end a.chains.now a.word h a.root_end (c.if-number-above_in.true ∙ c.above_in.ensures)
 
 pub overflow_add-result : goal.overflow_add-result
 overflow_add-result c = omega (arith, c.page_start.ensures, start_small c.args.chains.now c.args.word)
@@ -28,4 +28,4 @@ returns c =
     let a = c.args in
     let h = c.if-word-lt-FROM_CHAINS.false in
     rw c.page_start.ensures
-    (other_end a.chains.now a.word h a.root-end (λ e. c.if-number-above_in.false (e ∙ sym c.above_in.ensures)))
+    (other_end a.chains.now a.word h a.root_end (λ e. c.if-number-above_in.false (e ∙ sym c.above_in.ensures)))

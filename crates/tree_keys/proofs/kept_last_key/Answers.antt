@@ -5,7 +5,7 @@ use Rattle.tree_keys.proofs.Keeping.{few_filed, kept_short, kept_says, key_more}
 use Rattle.tree_keys.proofs.kept_last_key.Goals as goal
 
 pub find_tag-k-requires : goal.find_tag-k-requires
-find_tag-k-requires c = omega (arith, few_filed c.requires.0.1, c.long_page-c.ensures.0)
+find_tag-k-requires c = omega (arith, few_filed c.requires.0.1, c.long_page-c.ensures.number)
 
 pub take_kept-requires : goal.take_kept-requires
 take_kept-requires c =
@@ -18,12 +18,12 @@ returns-then-k-tags c =
     let way = c.long_page-c in
     let copy = c.take_kept in
     let short = kept_short pre.0.1 pre.0.2 _ _ c.find_tag-k.ensures c.if-k-tags.true in
-    let says = kept_says pre.0.1 pre.0.2 _ _ c.find_tag-k.ensures c.if-k-tags.true _ _ copy.ensures.size copy.ensures.key (search rules) in let it = (omega (arith, short, copy.ensures.size), (last_shared _ _ _ _ _ _ _ _ _ way.ensures.1 says, λ raws f kept. kept)) in record { short = it.0; says = it.1; keeps = it.2 }
+    let says = kept_says pre.0.1 pre.0.2 _ _ c.find_tag-k.ensures c.if-k-tags.true _ _ copy.ensures.size copy.ensures.key (search rules) in let it = (omega (arith, short, copy.ensures.size), (last_shared _ _ _ _ _ _ _ _ _ way.ensures.same says, λ raws f kept. kept)) in record { short = it.0; says = it.1; keeps = it.2 }
 
 pub keep_key-requires : goal.keep_key-requires
 keep_key-requires c =
     let pre = c.requires in
-    (pre.0.2.room, pre.2, omega (arith, few_filed pre.0.1, c.long_page-c.ensures.0), search rules, search rules)
+    (pre.0.2.room, pre.2, omega (arith, few_filed pre.0.1, c.long_page-c.ensures.number), search rules, search rules)
 
 pub returns-then-is_long : goal.returns-then-is_long
 returns-then-is_long c =
@@ -33,11 +33,11 @@ returns-then-is_long c =
     let keep = c.keep_key in let it = (
       search rules,
       (
-        last_shared _ _ _ _ _ _ _ _ _ way.ensures.1 key.ensures.says,
-        λ raws f kept. key_more raws _ _ _ _ _ _ _ _ keep.ensures kept way.ensures.0 (search rules) key.ensures.short (λ x q. (key.ensures.says raws f x q).bytes),
+        last_shared _ _ _ _ _ _ _ _ _ way.ensures.same key.ensures.says,
+        λ raws f kept. key_more raws _ _ _ _ _ _ _ _ keep.ensures kept way.ensures.number (search rules) key.ensures.short (λ x q. (key.ensures.says raws f x q).bytes),
       ),
     ) in record { short = it.0; says = it.1; keeps = it.2 }
 
 pub returns-else-is_long : goal.returns-else-is_long
 returns-else-is_long c =
-    let way = c.long_page-c in let it = (search rules, (last_shared _ _ _ _ _ _ _ _ _ way.ensures.1 c.last_key-size.ensures.says, λ raws f kept. kept)) in record { short = it.0; says = it.1; keeps = it.2 }
+    let way = c.long_page-c in let it = (search rules, (last_shared _ _ _ _ _ _ _ _ _ way.ensures.same c.last_key-size.ensures.says, λ raws f kept. kept)) in record { short = it.0; says = it.1; keeps = it.2 }

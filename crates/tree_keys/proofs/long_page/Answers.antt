@@ -15,10 +15,18 @@ pub page_place-at-requires : goal.page_place-at-requires
 page_place-at-requires c = omega (arith, c.requires.0.1.page_room, c.loop-steps.invariant.1)
 
 pub returns-then-is_long : goal.returns-then-is_long
-returns-then-is_long c = (search rules, search (rules, last_arrived))
+returns-then-is_long c =
+    record {
+      number = search rules;
+      same = search (rules, last_arrived);
+    }
 
 pub returns-then-link-eq0 : goal.returns-then-link-eq0
-returns-then-link-eq0 c = (search rules, search (rules, last_arrived))
+returns-then-link-eq0 c =
+    record {
+      number = search rules;
+      same = search (rules, last_arrived);
+    }
 
 pub linked_page-c-requires : goal.linked_page-c-requires
 linked_page-c-requires c = search (rules, end_leads)
@@ -27,4 +35,8 @@ pub loop-steps-preserved : goal.loop-steps-preserved
 loop-steps-preserved c = (search rules, search rules, search rules, search rules, search rules, search (rules, last_goes_on))
 
 pub returns : goal.returns
-returns c = (search rules, search (rules, last_arrived))
+returns c =
+    record {
+      number = search rules;
+      same = search (rules, last_arrived);
+    }

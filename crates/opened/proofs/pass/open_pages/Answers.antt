@@ -28,15 +28,15 @@ stage_kept-requires c =
     let a = c.args in
     let w = c.requires in
     let k = c.mark_known-opens in
-    let bytes = bytes_of_lem a.s.now (λ i h. omega (arith, c.shared-slice-known.given i)) in
+    let bytes = bytes_of_lem a.s.now (λ i h. omega (arith, c.type_inv.s i)) in
     let others = bytes_of_lem a.u.now (λ i h. omega (arith, c.type_inv.u i)) in
-    (index_room a.u.now a.index.now a.count others w.2 a.row.now w.3, may_stage a.s.now a.known.now a.n a.u.now a.chains.now a.index.now a.m a.count bytes others w.0 w.1 w.2 _ k.result k.ensures c.if-not-opens.false, search rules)
+    (index_room a.u.now a.index.now a.count others w.2 a.row.now w.3, may_stage a.s.now a.known.now a.n a.u.now a.chains.now a.index.now a.m a.count bytes others w.0 w.1 w.2 _ k.result k.ensures (ap not c.if-not-opens.false), search rules)
 
 pub returns : goal.returns
 returns c =
     let a = c.args in
     let w = c.requires in
     let k = c.mark_known-opens in
-    let bytes = bytes_of_lem a.s.now (λ i h. omega (arith, c.shared-slice-known.given i)) in
+    let bytes = bytes_of_lem a.s.now (λ i h. omega (arith, c.type_inv.s i)) in
     let others = bytes_of_lem a.u.now (λ i h. omega (arith, c.type_inv.u i)) in
-    some_opened a.s.now a.known.now a.n a.u.now a.chains.now a.index.now a.m a.count bytes others w.0 w.1 w.2 _ k.result k.ensures c.if-not-opens.false _ c.stage_kept.result c.stage_kept.ensures
+    some_opened a.s.now a.known.now a.n a.u.now a.chains.now a.index.now a.m a.count bytes others w.0 w.1 w.2 _ k.result k.ensures (ap not c.if-not-opens.false) _ c.stage_kept.result c.stage_kept.ensures
