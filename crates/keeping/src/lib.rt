@@ -1,5 +1,7 @@
 // The pages that are kept of filed pages, merged in order of digest with those of a register to be saved. The functions are for the crates
 // above and no public calls.
+#![tactic(auto)]
+
 ghost use Rattle.std.specs.Prelude.{◌≡◌, true, false, ◌&&◌, List, [], ◌++◌, ℕ, ◌+◌, ◌^◌, ◌≤◌, ◌<◌, length};
 ghost use Rattle.bytestring.specs.Bytes.{equal};
 ghost use Rattle.limits.specs.Limits.{longest};

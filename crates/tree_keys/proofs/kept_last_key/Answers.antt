@@ -18,7 +18,11 @@ returns-then-k-tags c =
     let way = c.long_page-c in
     let copy = c.take_kept in
     let short = kept_short pre.0.1 pre.0.2 _ _ c.find_tag-k.ensures c.if-k-tags.true in
-    let says = kept_says pre.0.1 pre.0.2 _ _ c.find_tag-k.ensures c.if-k-tags.true _ _ copy.ensures.size copy.ensures.key (search rules) in let it = (omega (arith, short, copy.ensures.size), (last_shared _ _ _ _ _ _ _ _ _ way.ensures.same says, λ raws f kept. kept)) in record { short = it.0; says = it.1; keeps = it.2 }
+    let says = kept_says pre.0.1 pre.0.2 _ _ c.find_tag-k.ensures c.if-k-tags.true _ _ copy.ensures.size copy.ensures.key (search rules) in record {
+      short = omega (arith, short, copy.ensures.size);
+      says = last_shared _ _ _ _ _ _ _ _ _ way.ensures.same says;
+      keeps = λ raws f kept. kept;
+    }
 
 pub keep_key-requires : goal.keep_key-requires
 keep_key-requires c =
@@ -30,14 +34,16 @@ returns-then-is_long c =
     let pre = c.requires in
     let way = c.long_page-c in
     let key = c.last_key-size in
-    let keep = c.keep_key in let it = (
-      search rules,
-      (
-        last_shared _ _ _ _ _ _ _ _ _ way.ensures.same key.ensures.says,
-        λ raws f kept. key_more raws _ _ _ _ _ _ _ _ keep.ensures kept way.ensures.number (search rules) key.ensures.short (λ x q. (key.ensures.says raws f x q).bytes),
-      ),
-    ) in record { short = it.0; says = it.1; keeps = it.2 }
+    let keep = c.keep_key in record {
+      short = search rules;
+      says = last_shared _ _ _ _ _ _ _ _ _ way.ensures.same key.ensures.says;
+      keeps = λ raws f kept. key_more raws _ _ _ _ _ _ _ _ keep.ensures kept way.ensures.number (search rules) key.ensures.short (λ x q. (key.ensures.says raws f x q).bytes);
+    }
 
 pub returns-else-is_long : goal.returns-else-is_long
 returns-else-is_long c =
-    let way = c.long_page-c in let it = (search rules, (last_shared _ _ _ _ _ _ _ _ _ way.ensures.same c.last_key-size.ensures.says, λ raws f kept. kept)) in record { short = it.0; says = it.1; keeps = it.2 }
+    let way = c.long_page-c in record {
+      short = search rules;
+      says = last_shared _ _ _ _ _ _ _ _ _ way.ensures.same c.last_key-size.ensures.says;
+      keeps = λ raws f kept. kept;
+    }

@@ -13,7 +13,7 @@ loop-i-init c =
     (search rules, none_lowered a.s.now a.heads.now a.words.now a.root.now a.u.now a.chains.now a.m a.marks.now)
 
 pub overflow_cast-marks : goal.overflow_cast-marks
-overflow_cast-marks c = omega (arith, c.type_inv.marks c.loop-i.i)
+overflow_cast-marks c = omega (arith, c.slice_known-in-loop-i-1.given c.loop-i.i)
 
 pub open_labels-open-requires : goal.open_labels-open-requires
 open_labels-open-requires c =
@@ -22,7 +22,7 @@ open_labels-open-requires c =
     (search rules, search rules, some_row_labels a.u.now a.chains.now a.m l.i (omega arith) (marked_chains c.requires.2), lowered_fits a.s.now a.heads.now a.words.now a.root.now a.u.now a.chains.now a.m a.marks.now l.marks l.i l.invariant.1 (omega arith) c.requires.0 c.requires.2)
 
 pub overflow_cast-marks-in-loop-i : goal.overflow_cast-marks-in-loop-i
-overflow_cast-marks-in-loop-i c = omega (arith, c.open_labels-open.ensures.0, c.type_inv.marks c.loop-i.i)
+overflow_cast-marks-in-loop-i c = omega (arith, c.open_labels-open.ensures.0, c.slice_known-in-loop-i-1.given c.loop-i.i)
 
 pub overflow_add-i-in-loop-i : goal.overflow_add-i-in-loop-i
 overflow_add-i-in-loop-i c = omega (arith, c.passed_over.ensures.1)

@@ -1,0 +1,16 @@
+use mathlib.Core.Path.{sym, ◌∙◌}
+use Rattle.key.proofs.SlashLaws.{slash_done}
+use Rattle.reading.proofs.Listings.{record_refused, record_same, beside_unlawful, beside_given, beside_none}
+use Rattle.reading.proofs.rows.beside_accepted.Goals as goal
+
+pub returns-in-Refused : goal.returns-in-Refused
+returns-in-Refused c =
+    record_refused _ _ _ _ (beside_unlawful _ _ _ _ c.requires (sym c.slash.ensures ∙ c.in-Refused.is)) (c.refuse_record.ensures.answer, c.refuse_record.ensures.key, c.refuse_record.ensures.value)
+
+pub returns-then-count-position : goal.returns-then-count-position
+returns-then-count-position c =
+    record_refused _ _ _ _ (beside_none _ _ _ _ c.requires (slash_done _ _ (sym c.slash.ensures ∙ c.in_default.is)) _ c.position_beside-position.ensures c.if-count-position.true) (c.refuse_record-then-count-position.ensures.answer, c.refuse_record-then-count-position.ensures.key, c.refuse_record-then-count-position.ensures.value)
+
+pub returns : goal.returns
+returns c =
+    record_same _ _ _ _ (beside_given _ _ _ _ c.requires (slash_done _ _ (sym c.slash.ensures ∙ c.in_default.is)) _ c.position_beside-position.ensures c.if-count-position.false) (c.record_at.ensures.answer, c.record_at.ensures.key, c.record_at.ensures.value)

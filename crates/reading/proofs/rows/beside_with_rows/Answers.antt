@@ -1,0 +1,10 @@
+use Rattle.reading.proofs.Verdicts.{accepted_index, judged_refused}
+use Rattle.reading.proofs.Listings.{record_refused, beside_refused}
+use Rattle.reading.proofs.rows.beside_with_rows.Goals as goal
+
+pub beside_accepted-requires : goal.beside_accepted-requires
+beside_accepted-requires c = accepted_index _ _ _ _ c.judge.ensures c.in-Accepted.is
+
+pub returns-in-Refused : goal.returns-in-Refused
+returns-in-Refused c =
+    record_refused _ _ _ _ (beside_refused _ _ _ _ (judged_refused _ _ _ _ c.judge.ensures c.in-Refused.is)) (c.refuse_record.ensures.answer, c.refuse_record.ensures.key, c.refuse_record.ensures.value)

@@ -1,0 +1,10 @@
+use Rattle.reading.proofs.Verdicts.{accepted_index, judged_refused}
+use Rattle.reading.proofs.Listings.{record_refused, listed_refused}
+use Rattle.reading.proofs.rows.list_with_rows.Goals as goal
+
+pub list_accepted-requires : goal.list_accepted-requires
+list_accepted-requires c = accepted_index _ _ _ _ c.judge.ensures c.in-Accepted.is
+
+pub returns-in-Refused : goal.returns-in-Refused
+returns-in-Refused c =
+    record_refused _ _ _ _ (listed_refused _ _ _ (judged_refused _ _ _ _ c.judge.ensures c.in-Refused.is)) (c.refuse_record.ensures.answer, c.refuse_record.ensures.key, c.refuse_record.ensures.value)

@@ -1,0 +1,24 @@
+use mathlib.Core.Path.{sym, ◌∙◌}
+use native.Mathlib.Omega.{arith}
+use Rattle.bytestring.proofs.Tools.{bytes_of_lem}
+use Rattle.key.proofs.SlashLaws.{slash_done}
+use Rattle.reading.proofs.Answering.{place_fits, answer_found, answer_absent, answer_unlawful}
+use borrow.Author.Rules.{rules}
+use Rattle.reading.proofs.rows.lookup_accepted.Goals as goal
+
+pub returns-in-Refused : goal.returns-in-Refused
+returns-in-Refused c = answer_unlawful _ _ c.requires (sym c.slash.ensures ∙ c.in-Refused.is)
+
+pub overflow_cast-result : goal.overflow_cast-result
+overflow_cast-result c =
+    let bytes = bytes_of_lem c.args.register.now (λ i h. omega (arith, c.type_inv.register i)) in
+    let fits = place_fits c.requires _ _ c.search.ensures.says _ _ c.in-At.is bytes in
+    search rules
+
+pub returns-in-At : goal.returns-in-At
+returns-in-At c =
+    answer_found c.requires _ _ c.search.ensures.says (slash_done _ _ (sym c.slash.ensures ∙ c.in_default.is)) _ _ _ c.in-At.is c.codec_at.ensures
+
+pub returns-in-Absent : goal.returns-in-Absent
+returns-in-Absent c =
+    answer_absent c.requires _ _ c.search.ensures.says (slash_done _ _ (sym c.slash.ensures ∙ c.in_default.is)) _ c.in-Absent.is
