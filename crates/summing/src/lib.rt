@@ -1,5 +1,7 @@
 // The trees under filed pages, each page judged once: a page is judged from what is known of the pages that it links to. The functions are
 // for the crates above and no public calls.
+#![tactic(auto)]
+
 ghost use Rattle.std.specs.Prelude.{◌≡◌, true, List, ◌^◌, ◌≤◌, ◌<◌, length};
 ghost use Rattle.limits.specs.Limits.{deepest, longest_key, most};
 ghost use Rattle.page.specs.Page.{RawPage};

@@ -1,3 +1,4 @@
+use mathlib.Core.List.{[]}
 use Rattle.keeping.proofs.Naming.{named_in_second, named_in_first, not_of_chain}
 use Rattle.keeping.proofs.label_digest.Goals as goal
 

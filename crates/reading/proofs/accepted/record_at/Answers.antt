@@ -20,7 +20,7 @@ returns-then-out-size c =
     let a = c.args in
     let pre = c.requires in
     let bytes = bytes_of_lem a.register.now (λ i h. omega (arith, c.type_inv.register i)) in
-    let f = c.fetch_from-found in let it = list_no_room pre.0 bytes a.n pre.1 _ _ f.result f.ensures (omega (arith, pre.0.room)) (length a.out.now) c.clear.ensures refl (omega arith) in record { answer = it.0; key = it.1; value = it.2 }
+    let f = c.fetch_from-found in let it = list_no_room pre.0 bytes a.n pre.1 _ _ f.result f.ensures (omega (arith, pre.0.room)) (length a.out.now) c.clear.ensures refl (omega arith) in record { answer = it.0; key = it.1.0; value = it.1.1 }
 
 pub slice_bounds-write_bytes-end : goal.slice_bounds-write_bytes-end
 slice_bounds-write_bytes-end c =
@@ -38,4 +38,4 @@ returns c =
     let pre = c.requires in
     let bytes = bytes_of_lem a.register.now (λ i h. omega (arith, c.type_inv.register i)) in
     let f = c.fetch_from-found in
-    let clear = c.clear in let it = list_record_lem pre.0 bytes a.n pre.1 _ _ f.result f.ensures (omega (arith, pre.0.room)) (length a.out.now) _ _ _ (omega arith) (omega (arith, clear.auto.out)) clear.ensures c.write_bytes.ensures c.value_at.ensures in record { answer = it.0; key = it.1; value = it.2 }
+    let clear = c.clear in let it = list_record_lem pre.0 bytes a.n pre.1 _ _ f.result f.ensures (omega (arith, pre.0.room)) (length a.out.now) _ _ _ (omega arith) (omega (arith, clear.auto.out)) clear.ensures c.write_bytes.ensures c.value_at.ensures in record { answer = it.0; key = it.1.0; value = it.1.1 }

@@ -5,12 +5,12 @@ use Rattle.reading.proofs.rows.beside_accepted.Goals as goal
 
 pub returns-in-Refused : goal.returns-in-Refused
 returns-in-Refused c =
-    record_refused _ _ _ _ (beside_unlawful _ _ _ _ c.requires (sym c.slash.ensures ∙ c.in-Refused.is)) (c.refuse_record.ensures.answer, c.refuse_record.ensures.key, c.refuse_record.ensures.value)
+    record_refused _ _ _ _ (beside_unlawful _ _ _ _ c.requires (sym c.slash.ensures ∙ c.in-Refused.is)) (c.refuse_record.ensures.answer, (c.refuse_record.ensures.key, c.refuse_record.ensures.value))
 
 pub returns-then-count-position : goal.returns-then-count-position
 returns-then-count-position c =
-    record_refused _ _ _ _ (beside_none _ _ _ _ c.requires (slash_done _ _ (sym c.slash.ensures ∙ c.in_default.is)) _ c.position_beside-position.ensures c.if-count-position.true) (c.refuse_record-then-count-position.ensures.answer, c.refuse_record-then-count-position.ensures.key, c.refuse_record-then-count-position.ensures.value)
+    record_refused _ _ _ _ (beside_none _ _ _ _ c.requires (slash_done _ _ (sym c.slash.ensures ∙ c.in_default.is)) _ c.position_beside-position.ensures c.if-count-position.true) (c.refuse_record-then-count-position.ensures.answer, (c.refuse_record-then-count-position.ensures.key, c.refuse_record-then-count-position.ensures.value))
 
 pub returns : goal.returns
 returns c =
-    record_same _ _ _ _ (beside_given _ _ _ _ c.requires (slash_done _ _ (sym c.slash.ensures ∙ c.in_default.is)) _ c.position_beside-position.ensures c.if-count-position.false) (c.record_at.ensures.answer, c.record_at.ensures.key, c.record_at.ensures.value)
+    record_same _ _ _ _ (beside_given _ _ _ _ c.requires (slash_done _ _ (sym c.slash.ensures ∙ c.in_default.is)) _ c.position_beside-position.ensures c.if-count-position.false) (c.record_at.ensures.answer, (c.record_at.ensures.key, c.record_at.ensures.value))

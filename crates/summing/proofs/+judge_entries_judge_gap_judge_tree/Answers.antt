@@ -1,0 +1,349 @@
+use mathlib.Core.Path.{ap}
+use mathlib.Core.Bool.{not}
+use mathlib.Core.Bool.{false≢true}
+use mathlib.Core.Logic.{inl, inr, ⊎_elim}
+use Rattle.summing.specs.Inner.{raws_in}
+use Rattle.summing.proofs.Gaps.{gap_empty, gap_leads, gap_too_low, gap_no_tree, gap_filed, gap_counted, gap_no_rise, gap_too_many, gap_whole, gap_underway}
+use Rattle.summing.proofs.Entries.{entry_located, underway_last, entries_begin, entries_end, entry_found, entries_too_many, key_asked, key_fails, entry_gap_fails, entry_asks, entries_go_on}
+use Rattle.summing.proofs.Trees.{tree_known, tree_stops, tree_bare, left_asked, tree_no_gap, left_underway, entries_asked, tree_no_entries, tree_few, tree_kept, tree_whole}
+use Prim.Native.Nat.{◌-◌}
+use native.Mathlib.Omega.{arith}
+use borrow.Author.Rules.{rules}
+use Rattle.summing.proofs.+judge_entries_judge_gap_judge_tree.Goals as goal
+
+pub judge_entries-loop-i-init : goal.judge_entries-loop-i-init
+judge_entries-loop-i-init t c =
+    (search rules, search rules, search rules, search rules, search rules, entries_begin c.args.start _ c.requires.0 c.requires.1 (search rules))
+
+pub judge_entries-returns-then-count-ge-MOST : goal.judge_entries-returns-then-count-ge-MOST
+judge_entries-returns-then-count-ge-MOST t c =
+    let l = c.loop-i.invariant.5 in
+    let more = c.loop-i-test.true in
+    let e = c.in-Entry.e in
+    let found = entry_located c.locate_entry.ensures c.in-Entry.is in
+    entries_too_many l more e found (omega (arith, c.if-count-ge-MOST.true))
+
+pub judge_entries-take_key-size-requires : goal.judge_entries-take_key-size-requires
+judge_entries-take_key-size-requires t c =
+    let l = c.loop-i.invariant.5 in
+    let more = c.loop-i-test.true in
+    let e = c.in-Entry.e in
+    let found = entry_located c.locate_entry.ensures c.in-Entry.is in
+    key_asked l more e found
+
+pub judge_entries-returns-then-size-eq0 : goal.judge_entries-returns-then-size-eq0
+judge_entries-returns-then-size-eq0 t c =
+    let l = c.loop-i.invariant.5 in
+    let more = c.loop-i-test.true in
+    let e = c.in-Entry.e in
+    let found = entry_located c.locate_entry.ensures c.in-Entry.is in
+    let k = c.take_key-size in
+    key_fails l more e found k.result k.new.buffer k.new.last k.ensures c.if-size-eq0.true
+
+pub judge_entries-judge_gap-requires : goal.judge_entries-judge_gap-requires
+judge_entries-judge_gap-requires t c =
+    let l = c.loop-i.invariant.5 in
+    let more = c.loop-i-test.true in
+    let e = c.in-Entry.e in
+    let found = entry_located c.locate_entry.ensures c.in-Entry.is in
+    let k = c.take_key-size in (
+      omega (arith, c.MEASURE),
+      (
+        underway_last l.under k.new.last (omega (arith, k.auto)),
+        entry_asks l more e found k.result k.new.buffer k.new.last k.ensures c.if-size-eq0.false
+            (omega (arith, k.auto, l.room)) (omega (arith, k.auto, l.under.room)) (omega (arith, c.if-count-ge-MOST)),
+      ),
+    )
+
+pub judge_entries-loop-i-smaller : goal.judge_entries-loop-i-smaller
+judge_entries-loop-i-smaller t c = omega (arith, c.loop-i-test)
+
+pub judge_entries-loop-i-preserved : goal.judge_entries-loop-i-preserved
+judge_entries-loop-i-preserved t c =
+    let l = c.loop-i.invariant.5 in
+    let more = c.loop-i-test.true in
+    let e = c.in-Entry.e in
+    let found = entry_located c.locate_entry.ensures c.in-Entry.is in
+    let k = c.take_key-size in
+    let g = c.judge_gap in (
+      omega (arith, g.auto, c.loop-i.invariant),
+      omega (arith, g.auto, c.loop-i.invariant),
+      omega (arith, g.auto, c.loop-i.invariant),
+      omega (arith, g.auto, c.loop-i.invariant),
+      omega (arith, g.auto, k.auto, c.loop-i.invariant),
+      entries_go_on l more e found k.result k.new.buffer k.new.last k.ensures c.if-size-eq0.false
+          (omega (arith, k.auto, l.room)) (omega (arith, k.auto, l.under.room))
+          g.result c.in-Whole.next g.new.pages g.new.counts g.new.keys g.new.tags
+          g.new.last g.ensures c.in-Whole.is,
+    )
+
+pub judge_entries-shape_of-pages-in-Wrong : goal.judge_entries-shape_of-pages-in-Wrong
+judge_entries-shape_of-pages-in-Wrong t c = omega (arith, c.judge_gap.auto, c.loop-i.invariant)
+
+pub judge_entries-shape_of-counts-in-Wrong : goal.judge_entries-shape_of-counts-in-Wrong
+judge_entries-shape_of-counts-in-Wrong t c = omega (arith, c.judge_gap.auto, c.loop-i.invariant)
+
+pub judge_entries-shape_of-keys-in-Wrong : goal.judge_entries-shape_of-keys-in-Wrong
+judge_entries-shape_of-keys-in-Wrong t c = omega (arith, c.judge_gap.auto, c.loop-i.invariant)
+
+pub judge_entries-shape_of-tags-in-Wrong : goal.judge_entries-shape_of-tags-in-Wrong
+judge_entries-shape_of-tags-in-Wrong t c = omega (arith, c.judge_gap.auto, c.loop-i.invariant)
+
+pub judge_entries-shape_of-last-in-Wrong : goal.judge_entries-shape_of-last-in-Wrong
+judge_entries-shape_of-last-in-Wrong t c = omega (arith, c.judge_gap.auto, c.take_key-size.auto, c.loop-i.invariant)
+
+pub judge_entries-returns-in-Wrong : goal.judge_entries-returns-in-Wrong
+judge_entries-returns-in-Wrong t c =
+    let l = c.loop-i.invariant.5 in
+    let more = c.loop-i-test.true in
+    let e = c.in-Entry.e in
+    let found = entry_located c.locate_entry.ensures c.in-Entry.is in
+    let k = c.take_key-size in
+    let g = c.judge_gap in
+    entry_gap_fails l more e found k.result k.new.buffer k.new.last k.ensures c.if-size-eq0.false
+    (omega (arith, k.auto, l.room)) (omega (arith, k.auto, l.under.room))
+    g.result g.new.pages g.new.counts g.new.keys g.new.tags
+    g.new.last g.ensures c.in-Wrong.is
+
+pub judge_entries-returns-in-EntryStop : goal.judge_entries-returns-in-EntryStop
+judge_entries-returns-in-EntryStop t c =
+    absurd (entry_found c.loop-i.invariant.5 c.loop-i-test.true c.locate_entry.result c.in-EntryStop.field-0 c.locate_entry.ensures c.in-EntryStop.is)
+
+pub judge_entries-returns : goal.judge_entries-returns
+judge_entries-returns t c = entries_end c.loop-i.invariant.5 (omega (arith, c.loop-i-test))
+
+pub judge_gap-returns-then-link-eq0 : goal.judge_gap-returns-then-link-eq0
+judge_gap-returns-then-link-eq0 t c = gap_empty c.requires.0 c.requires.1 c.if-link-eq0.true
+
+pub judge_gap-returns-then-layer-eq0 : goal.judge_gap-returns-then-layer-eq0
+judge_gap-returns-then-layer-eq0 t c = gap_too_low c.requires.0 c.requires.1 c.if-link-eq0.false c.if-layer-eq0.true
+
+pub judge_gap-linked_page-c-requires : goal.judge_gap-linked_page-c-requires
+judge_gap-linked_page-c-requires t c = gap_leads c.requires.0 c.requires.1 c.if-link-eq0.false
+
+pub judge_gap-judge_tree-requires : goal.judge_gap-judge_tree-requires
+judge_gap-judge_tree-requires t c =
+    (omega (arith, c.MEASURE, c.if-layer-eq0), (c.requires.0, c.linked_page-c.ensures.number, omega (arith, c.requires.1.low), c.requires.1.marked))
+
+pub judge_gap-returns-then-not-judge_tree : goal.judge_gap-returns-then-not-judge_tree
+judge_gap-returns-then-not-judge_tree t c =
+    let w = c.judge_tree in
+    gap_no_tree c.requires.0 c.requires.1 c.if-link-eq0.false c.if-layer-eq0.false c.linked_page-c.result c.linked_page-c.ensures
+    w.result w.new.pages w.new.counts w.ensures.says (ap not c.if-not-judge_tree.true)
+
+pub judge_gap-first_follows-requires : goal.judge_gap-first_follows-requires
+judge_gap-first_follows-requires t c =
+    let w = c.judge_tree in (
+      (
+        raws_in c.args.sequence.now,
+        gap_filed c.requires.0 c.requires.1 c.if-link-eq0.false c.if-layer-eq0.false c.linked_page-c.result c.linked_page-c.ensures
+            w.result w.new.pages w.new.counts w.ensures.says (ap not c.if-not-judge_tree.false),
+      ),
+      c.linked_page-c.ensures.number,
+      omega (arith, c.requires.0.summings.filed.short),
+    )
+
+pub judge_gap-returns-then-not-first_follows : goal.judge_gap-returns-then-not-first_follows
+judge_gap-returns-then-not-first_follows t c =
+    let w = c.judge_tree in
+    gap_no_rise c.requires.0 c.requires.1 c.if-link-eq0.false c.if-layer-eq0.false c.linked_page-c.result c.linked_page-c.ensures
+    w.result w.new.pages w.new.counts w.ensures.says (ap not c.if-not-judge_tree.false)
+    c.first_follows.result c.first_follows.ensures (ap not c.if-not-first_follows.true)
+
+pub judge_gap-offset_bounds-counts-c : goal.judge_gap-offset_bounds-counts-c
+judge_gap-offset_bounds-counts-c t c =
+    let w = c.judge_tree in
+    let k = gap_counted c.requires.0 c.requires.1 c.if-link-eq0.false c.if-layer-eq0.false c.linked_page-c.result c.linked_page-c.ensures
+    w.result w.new.pages w.new.counts w.ensures.says (ap not c.if-not-judge_tree.false) in
+    omega (arith, k, w.auto, c.WELL_FORMED)
+
+pub judge_gap-bounds-counts-c : goal.judge_gap-bounds-counts-c
+judge_gap-bounds-counts-c t c =
+    let w = c.judge_tree in
+    gap_counted c.requires.0 c.requires.1 c.if-link-eq0.false c.if-layer-eq0.false c.linked_page-c.result c.linked_page-c.ensures
+    w.result w.new.pages w.new.counts w.ensures.says (ap not c.if-not-judge_tree.false)
+
+pub judge_gap-overflow_cast-sum : goal.judge_gap-overflow_cast-sum
+judge_gap-overflow_cast-sum t c =
+    let w = c.judge_tree in
+    let k = gap_counted c.requires.0 c.requires.1 c.if-link-eq0.false c.if-layer-eq0.false c.linked_page-c.result c.linked_page-c.ensures
+    w.result w.new.pages w.new.counts w.ensures.says (ap not c.if-not-judge_tree.false) in
+    omega (arith, k, c.type_inv.counts c.linked_page-c.result)
+
+pub judge_gap-overflow_add-sum : goal.judge_gap-overflow_add-sum
+judge_gap-overflow_add-sum t c =
+    let w = c.judge_tree in
+    let k = gap_counted c.requires.0 c.requires.1 c.if-link-eq0.false c.if-layer-eq0.false c.linked_page-c.result c.linked_page-c.ensures
+    w.result w.new.pages w.new.counts w.ensures.says (ap not c.if-not-judge_tree.false) in
+    omega (arith, k, c.type_inv.counts c.linked_page-c.result, c.requires.1.few)
+
+pub judge_gap-returns-then-sum-gt-MOST : goal.judge_gap-returns-then-sum-gt-MOST
+judge_gap-returns-then-sum-gt-MOST t c =
+    let w = c.judge_tree in
+    gap_too_many c.requires.0 c.requires.1 c.if-link-eq0.false c.if-layer-eq0.false c.linked_page-c.result c.linked_page-c.ensures
+    w.result w.new.pages w.new.counts w.ensures.says (ap not c.if-not-judge_tree.false) (omega (arith, c.if-sum-gt-MOST.true))
+
+pub judge_gap-kept_last_key-length-requires : goal.judge_gap-kept_last_key-length-requires
+judge_gap-kept_last_key-length-requires t c =
+    let w = c.judge_tree in (
+      (
+        raws_in c.args.sequence.now,
+        gap_filed c.requires.0 c.requires.1 c.if-link-eq0.false c.if-layer-eq0.false c.linked_page-c.result c.linked_page-c.ensures
+            w.result w.new.pages w.new.counts w.ensures.says (ap not c.if-not-judge_tree.false),
+        w.ensures.keeps (c.if-not-judge_tree.false),
+      ),
+      c.linked_page-c.ensures.number,
+      omega (arith, w.auto, c.requires.0.places),
+      omega (arith, w.auto, c.requires.0.room),
+    )
+
+pub judge_gap-returns : goal.judge_gap-returns
+judge_gap-returns t c =
+    let w = c.judge_tree in
+    let under = c.requires.0 in
+    let asked = c.requires.1 in
+    let to = c.linked_page-c in
+    let z = c.kept_last_key-length in
+    let filed = gap_filed under asked c.if-link-eq0.false c.if-layer-eq0.false to.result to.ensures
+    w.result w.new.pages w.new.counts w.ensures.says (ap not c.if-not-judge_tree.false) in
+    gap_whole under asked c.if-link-eq0.false c.if-layer-eq0.false to.result to.ensures
+    w.result w.new.pages w.new.counts w.ensures.says (ap not c.if-not-judge_tree.false)
+    c.first_follows.result c.first_follows.ensures c.if-not-first_follows.false (omega (arith, c.if-sum-gt-MOST))
+    z.new.keys z.new.tags z.new.last z.result z.ensures.says.0
+    (gap_underway under asked c.if-link-eq0.false c.if-layer-eq0.false to.result to.ensures
+    w.result w.new.pages w.new.counts w.ensures.says c.if-not-judge_tree.false
+    z.new.keys z.new.tags z.new.last
+    (z.ensures.says.1 (raws_in c.args.sequence.now) filed (w.ensures.keeps (c.if-not-judge_tree.false)))
+    (omega (arith, z.auto, w.auto)) (omega (arith, z.auto, w.auto)))
+
+pub judge_tree-returns-then-note-le-DEEPEST : goal.judge_tree-returns-then-note-le-DEEPEST
+judge_tree-returns-then-note-le-DEEPEST t c =
+    let u = c.requires in record {
+      says = tree_known u.0 u.1 u.2 u.3 c.word_note-note.result c.word_note-note.ensures (omega (arith, c.if-note-gt0)) (omega (arith, c.if-note-le-DEEPEST));
+      keeps = λ h. u.0.kept;
+    }
+
+pub judge_tree-returns-then-left-eq0 : goal.judge_tree-returns-then-left-eq0
+judge_tree-returns-then-left-eq0 t c =
+    let u = c.requires in record {
+      says = tree_bare u.0 u.1 u.2 u.3 c.word_place-place.result c.word_place-place.ensures c.read_page.result c.read_page.ensures
+          c.in-Page.p c.in-Page.is c.if-entries-eq0.true c.if-left-eq0.true;
+      keeps = λ h. absurd (false≢true h);
+    }
+
+pub judge_tree-judge_gap-requires : goal.judge_tree-judge_gap-requires
+judge_tree-judge_gap-requires t c =
+    let u = c.requires in (
+      omega (arith, c.MEASURE),
+      (
+        u.0,
+        left_asked u.0 u.1 u.2 u.3 c.word_place-place.result c.word_place-place.ensures c.read_page.result c.read_page.ensures
+            c.in-Page.p c.in-Page.is c.args.states.now,
+      ),
+    )
+
+pub judge_tree-judge_entries-requires : goal.judge_tree-judge_entries-requires
+judge_tree-judge_entries-requires t c =
+    let u = c.requires in
+    let g = c.judge_gap in (
+      omega (arith, c.MEASURE),
+      (
+        left_underway u.0 u.1 u.2 u.3 c.word_place-place.result c.word_place-place.ensures c.read_page.result c.read_page.ensures
+            c.in-Page.p c.in-Page.is
+            g.result g.new.pages g.new.counts g.new.keys g.new.tags
+            g.new.last g.ensures c.in-Whole.start c.in-Whole.is,
+        entries_asked u.0 u.1 u.2 u.3 c.word_place-place.result c.word_place-place.ensures c.read_page.result c.read_page.ensures
+            c.in-Page.p c.in-Page.is
+            g.result g.new.pages g.new.counts g.new.keys g.new.tags
+            g.new.last g.ensures c.in-Whole.start c.in-Whole.is,
+      ),
+    )
+
+pub judge_tree-overflow_add-layer : goal.judge_tree-overflow_add-layer
+judge_tree-overflow_add-layer t c = omega (arith, c.requires)
+
+pub judge_tree-note_page-requires : goal.judge_tree-note_page-requires
+judge_tree-note_page-requires t c =
+    let u = c.requires in
+    let g = c.judge_gap in
+    let z = c.judge_entries in
+    let few = tree_few u.0 u.1 u.2 u.3 c.word_place-place.result c.word_place-place.ensures c.read_page.result c.read_page.ensures
+    c.in-Page.p c.in-Page.is
+    g.result g.new.pages g.new.counts g.new.keys g.new.tags
+    g.new.last g.ensures c.in-Whole.start c.in-Whole.is
+    z.result z.new.pages z.new.counts z.new.keys z.new.tags
+    z.new.last z.ensures c.in-Whole-judge_entries.sum c.in-Whole-judge_entries.is in (
+      omega (arith, g.auto, z.auto, u.0.summings.filed.page_room, u.1),
+      omega (arith, g.auto, z.auto, u.0.summings.room, u.1),
+      omega (arith, c.word_place-place.ensures),
+      omega (arith, u.2),
+      u.3,
+      few,
+    )
+
+pub judge_tree-shape_of-pages-in-Whole-judge_entries : goal.judge_tree-shape_of-pages-in-Whole-judge_entries
+judge_tree-shape_of-pages-in-Whole-judge_entries t c = omega (arith, c.judge_gap.auto, c.judge_entries.auto, c.note_page.auto)
+
+pub judge_tree-shape_of-counts-in-Whole-judge_entries : goal.judge_tree-shape_of-counts-in-Whole-judge_entries
+judge_tree-shape_of-counts-in-Whole-judge_entries t c = omega (arith, c.judge_gap.auto, c.judge_entries.auto, c.note_page.auto)
+
+pub judge_tree-shape_of-keys-in-Whole-judge_entries : goal.judge_tree-shape_of-keys-in-Whole-judge_entries
+judge_tree-shape_of-keys-in-Whole-judge_entries t c = omega (arith, c.judge_gap.auto, c.judge_entries.auto)
+
+pub judge_tree-shape_of-tags-in-Whole-judge_entries : goal.judge_tree-shape_of-tags-in-Whole-judge_entries
+judge_tree-shape_of-tags-in-Whole-judge_entries t c = omega (arith, c.judge_gap.auto, c.judge_entries.auto)
+
+pub judge_tree-returns-in-Whole-judge_entries : goal.judge_tree-returns-in-Whole-judge_entries
+judge_tree-returns-in-Whole-judge_entries t c =
+    let u = c.requires in
+    let g = c.judge_gap in
+    let z = c.judge_entries in record {
+      says = tree_whole u.0 u.1 u.2 u.3 c.word_place-place.result c.word_place-place.ensures c.read_page.result c.read_page.ensures
+          c.in-Page.p c.in-Page.is
+          g.result g.new.pages g.new.counts g.new.keys g.new.tags
+          g.new.last g.ensures c.in-Whole.start c.in-Whole.is
+          z.result z.new.pages z.new.counts z.new.keys z.new.tags
+          z.new.last z.ensures c.in-Whole-judge_entries.sum c.in-Whole-judge_entries.is
+          (⊎_elim (λ x. inl (x.0.taken, x.1.left)) (λ x. inr x.left) c.if-entries-eq0.branch)
+          (⊎_elim (λ x k. omega (arith, x.1.left, c.word_note-note.ensures)) (λ x k. absurd (omega (arith, x.left, c.word_note-note.ensures))) c.if-note-gt0.branch)
+          c.note_page.new.pages c.note_page.new.counts c.note_page.ensures;
+      keeps = λ h. tree_kept u.0 u.1 u.2 u.3 c.word_place-place.result c.word_place-place.ensures c.read_page.result c.read_page.ensures
+          c.in-Page.p c.in-Page.is
+          g.result g.new.pages g.new.counts g.new.keys g.new.tags
+          g.new.last g.ensures c.in-Whole.start c.in-Whole.is
+          z.result z.new.pages z.new.counts z.new.keys z.new.tags
+          z.new.last z.ensures c.in-Whole-judge_entries.sum c.in-Whole-judge_entries.is;
+    }
+
+pub judge_tree-returns-in-Wrong-judge_entries : goal.judge_tree-returns-in-Wrong-judge_entries
+judge_tree-returns-in-Wrong-judge_entries t c =
+    let u = c.requires in
+    let g = c.judge_gap in
+    let z = c.judge_entries in record {
+      says = tree_no_entries u.0 u.1 u.2 u.3 c.word_place-place.result c.word_place-place.ensures c.read_page.result c.read_page.ensures
+          c.in-Page.p c.in-Page.is
+          g.result g.new.pages g.new.counts g.new.keys g.new.tags
+          g.new.last g.ensures c.in-Whole.start c.in-Whole.is
+          z.result z.new.pages z.new.counts z.new.keys z.new.tags
+          z.new.last z.ensures c.in-Wrong-judge_entries.is;
+      keeps = λ h. absurd (false≢true h);
+    }
+
+pub judge_tree-returns-in-Wrong : goal.judge_tree-returns-in-Wrong
+judge_tree-returns-in-Wrong t c =
+    let u = c.requires in
+    let g = c.judge_gap in record {
+      says = tree_no_gap u.0 u.1 u.2 u.3 c.word_place-place.result c.word_place-place.ensures c.read_page.result c.read_page.ensures
+          c.in-Page.p c.in-Page.is
+          g.result g.new.pages g.new.counts g.new.keys g.new.tags
+          g.new.last g.ensures c.in-Wrong.is;
+      keeps = λ h. absurd (false≢true h);
+    }
+
+pub judge_tree-returns-in-PageStop : goal.judge_tree-returns-in-PageStop
+judge_tree-returns-in-PageStop t c =
+    let u = c.requires in record {
+      says = tree_stops u.0 u.1 u.2 u.3 c.word_place-place.result c.word_place-place.ensures c.read_page.result c.read_page.ensures
+          c.in-PageStop.field-0 c.in-PageStop.is;
+      keeps = λ h. absurd (false≢true h);
+    }
