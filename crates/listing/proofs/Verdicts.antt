@@ -7,7 +7,6 @@ use lib.ListN.{length, take}
 use lib.Seq.{length-take-le}
 use borrow.Author.Tests.{le-leb}
 use Rattle.bytestring.specs.Bytes.{Bytes}
-use Rattle.io.specs.Counts.{IsPrefixLen}
 use Rattle.answer.specs.Answer.{number_of}
 use Rattle.answer.specs.declared.Refusal.{Refusal}
 use Rattle.tree.specs.Record.{records}
@@ -17,7 +16,7 @@ use Rattle.row.specs.Row.{Row, records_of}
 use Rattle.row.proofs.Rows.{accepted_short, accepted_row, accepted_records_lem}
 use Rattle.promises.specs.Listing.{decimal, space, line_feed, record_lines, listing_of, refusal_line, listing_verdict, longest_input, listing, longest_listing}
 use Rattle.promises.proofs.ListingLaws.{too_long, first_bytes_decide, listing_fits}
-use Rattle.listing.specs.Text.{TextStands, Adds, ListsInput}
+use Rattle.listing.specs.Text.{IsPrefixLen, TextStands, Adds, ListsInput}
 use Rattle.listing.specs.declared.text.TextAdded.{TextAdded}
 use Rattle.listing.specs.declared.text.TextAdded.TheVariants.{Text, NoRoom}
 use Rattle.listing.proofs.Adding.{adds_then, adds_short, adds_same, adds_first, then_lines}

@@ -1,11 +1,15 @@
 -- What the functions of the listing program write.
-use Rattle.std.specs.Prelude.{ℕ, ◌+◌, ◌≤◌, ◌<◌, ◌≡◌, List, [], ◌∷◌, ◌++◌, length, take}
+use Rattle.std.specs.Prelude.{ℕ, ◌≤◌, ◌<◌, ◌≡◌, List, [], ◌∷◌, ◌++◌, length, take}
 use Rattle.tree.specs.Record.{Record}
 use Rattle.row.specs.Row.{record_of_word}
 use Rattle.row.specs.Memory.{Remembers}
 use Rattle.promises.specs.Listing.{hexadecimal, space, line_feed, listing}
 use Rattle.listing.specs.declared.text.TextAdded.{TextAdded}
 use Rattle.listing.specs.declared.text.TextAdded.TheVariants.{Text, NoRoom}
+
+-- The first n elements of a list: n is at most its length.
+abbrev pub IsPrefixLen : ℕ → List ℕ → Type 0
+IsPrefixLen n xs = (n ≤ length xs) × (n ≡ length (take n xs))
 
 -- The text stands at the front of the output, or there is no room for it.
 abbrev pub TextStands : List ℕ → List ℕ → TextAdded → Type 0

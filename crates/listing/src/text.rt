@@ -1,11 +1,10 @@
 // The text for a register.
 ghost use Rattle.std.specs.Prelude.{◌≡◌, [], ◌∷◌, ◌++◌, ◌^◌, ◌<◌, length, take};
-ghost use Rattle.io.specs.Counts.{IsPrefixLen};
 ghost use Rattle.row.specs.Row.{Stands, Row, records_of};
 ghost use Rattle.row.specs.Memory.{Remembers};
 ghost use Rattle.promises.specs.Listing.{decimal, digits, hex_digit, line_feed, record_lines, listing};
 ghost use Rattle.value.specs.Value.{value_length};
-ghost use Rattle.listing.specs.Text.{TextStands, Adds, line_end, LineSays};
+ghost use Rattle.listing.specs.Text.{IsPrefixLen, TextStands, Adds, line_end, LineSays};
 
 use bytestring::write_bytes;
 use judge::{Register, judge};
