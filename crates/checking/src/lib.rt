@@ -1,5 +1,7 @@
 // The head of a register, and the judgement of a register that is lent with its head. The functions are for the crates above and no public
 // calls.
+#![tactic(auto)]
+
 ghost use Rattle.std.specs.Prelude.{◌≡◌, length};
 ghost use Rattle.tree.specs.Record.{records};
 ghost use Rattle.tree.specs.Table.{SpeltTree};

@@ -47,7 +47,7 @@ judge_entries-judge_gap-requires t c =
     let e = c.in-Entry.e in
     let found = entry_located c.locate_entry.ensures c.in-Entry.is in
     let k = c.take_key-size in (
-      omega (arith, c.MEASURE),
+      omega (arith, c.decreases),
       (
         underway_last l.under k.new.last (omega (arith, k.auto)),
         entry_asks l more e found k.result k.new.buffer k.new.last k.ensures c.if-size-eq0.false
@@ -123,7 +123,7 @@ judge_gap-linked_page-c-requires t c = gap_leads c.requires.0 c.requires.1 c.if-
 
 pub judge_gap-judge_tree-requires : goal.judge_gap-judge_tree-requires
 judge_gap-judge_tree-requires t c =
-    (omega (arith, c.MEASURE, c.if-layer-eq0), (c.requires.0, c.linked_page-c.ensures.number, omega (arith, c.requires.1.low), c.requires.1.marked))
+    (omega (arith, c.decreases, c.if-layer-eq0), (c.requires.0, c.linked_page-c.ensures.number, omega (arith, c.requires.1.low), c.requires.1.marked))
 
 pub judge_gap-returns-then-not-judge_tree : goal.judge_gap-returns-then-not-judge_tree
 judge_gap-returns-then-not-judge_tree t c =
@@ -155,7 +155,7 @@ judge_gap-offset_bounds-counts-c t c =
     let w = c.judge_tree in
     let k = gap_counted c.requires.0 c.requires.1 c.if-link-eq0.false c.if-layer-eq0.false c.linked_page-c.result c.linked_page-c.ensures
     w.result w.new.pages w.new.counts w.ensures.says (ap not c.if-not-judge_tree.false) in
-    omega (arith, k, w.auto, c.WELL_FORMED)
+    omega (arith, k, w.auto, c.ranges.states)
 
 pub judge_gap-bounds-counts-c : goal.judge_gap-bounds-counts-c
 judge_gap-bounds-counts-c t c =
@@ -209,11 +209,11 @@ judge_gap-returns t c =
     gap_whole under asked c.if-link-eq0.false c.if-layer-eq0.false to.result to.ensures
     w.result w.new.pages w.new.counts w.ensures.says (ap not c.if-not-judge_tree.false)
     c.first_follows.result c.first_follows.ensures c.if-not-first_follows.false (omega (arith, c.if-sum-gt-MOST))
-    z.new.keys z.new.tags z.new.last z.result z.ensures.says.0
+    z.new.keys z.new.tags z.new.last z.result z.ensures.says
     (gap_underway under asked c.if-link-eq0.false c.if-layer-eq0.false to.result to.ensures
     w.result w.new.pages w.new.counts w.ensures.says c.if-not-judge_tree.false
     z.new.keys z.new.tags z.new.last
-    (z.ensures.says.1 (raws_in c.args.sequence.now) filed (w.ensures.keeps (c.if-not-judge_tree.false)))
+    (z.ensures.keeps (raws_in c.args.sequence.now) filed (w.ensures.keeps (c.if-not-judge_tree.false)))
     (omega (arith, z.auto, w.auto)) (omega (arith, z.auto, w.auto)))
 
 pub judge_tree-returns-then-note-le-DEEPEST : goal.judge_tree-returns-then-note-le-DEEPEST
@@ -234,7 +234,7 @@ judge_tree-returns-then-left-eq0 t c =
 pub judge_tree-judge_gap-requires : goal.judge_tree-judge_gap-requires
 judge_tree-judge_gap-requires t c =
     let u = c.requires in (
-      omega (arith, c.MEASURE),
+      omega (arith, c.decreases),
       (
         u.0,
         left_asked u.0 u.1 u.2 u.3 c.word_place-place.result c.word_place-place.ensures c.read_page.result c.read_page.ensures
@@ -246,7 +246,7 @@ pub judge_tree-judge_entries-requires : goal.judge_tree-judge_entries-requires
 judge_tree-judge_entries-requires t c =
     let u = c.requires in
     let g = c.judge_gap in (
-      omega (arith, c.MEASURE),
+      omega (arith, c.decreases),
       (
         left_underway u.0 u.1 u.2 u.3 c.word_place-place.result c.word_place-place.ensures c.read_page.result c.read_page.ensures
             c.in-Page.p c.in-Page.is

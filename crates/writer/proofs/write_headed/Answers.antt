@@ -31,10 +31,10 @@ into c =
     row_written start.requires.0 top.result (top.ensures start.args.s.now start.args.u.now) c.before.before.before.before.used.ensures c.write-pages.auto.1.1.1.1.1.1.1.0 c.write-pages.ensures
 
 pub slice_bounds-labels-end : goal.slice_bounds-labels-end
-slice_bounds-labels-end c = sym (length-take-le (2 * c.args.first_count) c.args.first-chains.now c.requires.1.room)
+slice_bounds-labels-end c = sym (length-take-le (2 * c.args.first_count) c.args.first_chains.now c.requires.1.room)
 
 pub slice_bounds-others-end : goal.slice_bounds-others-end
-slice_bounds-others-end c = sym (length-take-le (2 * c.args.second-count) c.args.second-chains.now c.requires.2.room)
+slice_bounds-others-end c = sym (length-take-le (2 * c.args.second_count) c.args.second_chains.now c.requires.2.room)
 
 pub slice_bounds-write_pages-end-2 : goal.slice_bounds-write_pages-end-2
 slice_bounds-write_pages-end-2 c =
@@ -50,10 +50,9 @@ pub returns-then-not-w : goal.returns-then-not-w
 unfolding table_of
 returns-then-not-w c =
     let a = c.args in
-    let none = c.if-not-w.true in
-    let refused = (c.refuse_headed.ensures.headed, c.refuse_headed.ensures.output) in record {
-      headed = refused.0 ∙ head_kept (records_of a.s.now a.u.now a.row.now a.n) a.head (into wrote) none;
-      output = refused.1 ∙ rw none at (output_is (into wrote));
+    let none = c.if-not-w.true in record {
+      headed = c.refuse_headed.ensures.headed ∙ head_kept (records_of a.s.now a.u.now a.row.now a.n) a.head (into wrote) none;
+      output = c.refuse_headed.ensures.output ∙ rw none at (output_is (into wrote));
     }
 
 pub slice_bounds-written_digest-end : goal.slice_bounds-written_digest-end
@@ -86,9 +85,8 @@ unfolding table_of
 returns c =
     let a = c.args in
     let top = c.top_layer-top in
-    let fits = c.if-not-w.false in
-    let end = (c.finish-answer.ensures.answer, c.finish-answer.ensures.output) in record {
-      headed = head_moved (records_of a.s.now a.u.now a.row.now a.n) a.head (into wrote) fits end.0 (sym (records_length a.s.now a.u.now a.row.now a.n c.requires.0.room))
+    let fits = c.if-not-w.false in record {
+      headed = head_moved (records_of a.s.now a.u.now a.row.now a.n) a.head (into wrote) fits c.finish-answer.ensures.answer (sym (records_length a.s.now a.u.now a.row.now a.n c.requires.0.room))
           (row_top c.requires.0 top.result (top.ensures a.s.now a.u.now)) c.written_digest-digest.ensures;
-      output = end.1 ∙ rw fits at (output_is (into wrote));
+      output = c.finish-answer.ensures.output ∙ rw fits at (output_is (into wrote));
     }

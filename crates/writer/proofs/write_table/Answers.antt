@@ -7,10 +7,10 @@ use Rattle.writer.proofs.Whole.{used_length, row_written, len_small, len_fits, a
 use Rattle.writer.proofs.write_table.Goals as goal
 
 pub slice_bounds-write_pages-end : goal.slice_bounds-write_pages-end
-slice_bounds-write_pages-end c = sym (length-take-le (2 * c.args.first_count) c.args.first-chains.now c.requires.1.room)
+slice_bounds-write_pages-end c = sym (length-take-le (2 * c.args.first_count) c.args.first_chains.now c.requires.1.room)
 
 pub slice_bounds-write_pages-end-2 : goal.slice_bounds-write_pages-end-2
-slice_bounds-write_pages-end-2 c = sym (length-take-le (2 * c.args.second-count) c.args.second-chains.now c.requires.2.room)
+slice_bounds-write_pages-end-2 c = sym (length-take-le (2 * c.args.second_count) c.args.second_chains.now c.requires.2.room)
 
 pub slice_bounds-write_pages-end-4 : goal.slice_bounds-write_pages-end-4
 slice_bounds-write_pages-end-4 c =

@@ -5,12 +5,12 @@ use Rattle.reading.proofs.rows.beside_accepted.Goals as goal
 
 pub returns-in-Refused : goal.returns-in-Refused
 returns-in-Refused c =
-    record_refused _ _ _ _ (beside_unlawful _ _ _ _ c.requires (sym c.slash.ensures ∙ c.in-Refused.is)) (c.refuse_record.ensures.answer, (c.refuse_record.ensures.key, c.refuse_record.ensures.value))
+    let it = record_refused _ _ _ _ (beside_unlawful _ _ _ _ c.requires (sym c.slash.ensures ∙ c.in-Refused.is)) (c.refuse_record.ensures.answer, (c.refuse_record.ensures.key, c.refuse_record.ensures.value)) in record { answer = it.0; key = it.1.0; value = it.1.1 }
 
 pub returns-then-count-position : goal.returns-then-count-position
 returns-then-count-position c =
-    record_refused _ _ _ _ (beside_none _ _ _ _ c.requires (slash_done _ _ (sym c.slash.ensures ∙ c.in_default.is)) _ c.position_beside-position.ensures c.if-count-position.true) (c.refuse_record-then-count-position.ensures.answer, (c.refuse_record-then-count-position.ensures.key, c.refuse_record-then-count-position.ensures.value))
+    let it = record_refused _ _ _ _ (beside_none _ _ _ _ c.requires (slash_done _ _ (sym c.slash.ensures ∙ c.in_default.is)) _ c.position_beside-position.ensures c.if-count-position.true) (c.refuse_record-then-count-position.ensures.answer, (c.refuse_record-then-count-position.ensures.key, c.refuse_record-then-count-position.ensures.value)) in record { answer = it.0; key = it.1.0; value = it.1.1 }
 
 pub returns : goal.returns
 returns c =
-    record_same _ _ _ _ (beside_given _ _ _ _ c.requires (slash_done _ _ (sym c.slash.ensures ∙ c.in_default.is)) _ c.position_beside-position.ensures c.if-count-position.false) (c.record_at.ensures.answer, (c.record_at.ensures.key, c.record_at.ensures.value))
+    let it = record_same _ _ _ _ (beside_given _ _ _ _ c.requires (slash_done _ _ (sym c.slash.ensures ∙ c.in_default.is)) _ c.position_beside-position.ensures c.if-count-position.false) (c.record_at.ensures.answer, (c.record_at.ensures.key, c.record_at.ensures.value)) in record { answer = it.0; key = it.1.0; value = it.1.1 }

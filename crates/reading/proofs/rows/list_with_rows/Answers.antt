@@ -7,4 +7,4 @@ list_accepted-requires c = accepted_index _ _ _ _ c.judge.ensures c.in-Accepted.
 
 pub returns-in-Refused : goal.returns-in-Refused
 returns-in-Refused c =
-    record_refused _ _ _ _ (listed_refused _ _ _ (judged_refused _ _ _ _ c.judge.ensures c.in-Refused.is)) (c.refuse_record.ensures.answer, (c.refuse_record.ensures.key, c.refuse_record.ensures.value))
+    let it = record_refused _ _ _ _ (listed_refused _ _ _ (judged_refused _ _ _ _ c.judge.ensures c.in-Refused.is)) (c.refuse_record.ensures.answer, (c.refuse_record.ensures.key, c.refuse_record.ensures.value)) in record { answer = it.0; key = it.1.0; value = it.1.1 }

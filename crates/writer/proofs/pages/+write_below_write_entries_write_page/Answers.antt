@@ -67,7 +67,7 @@ write_entries-write_below-w-requires t c =
     let l = c.loop-i in
     let p = c.requires in
     let r = c.run_end-next in
-    (one_below c.MEASURE, (ready_within p.0 (l.i + 1) r.result l.invariant.holding.memory l.invariant.holding.slots r.ensures.from r.ensures.to, p.1, p.2))
+    (one_below c.decreases, (ready_within p.0 (l.i + 1) r.result l.invariant.holding.memory l.invariant.holding.slots r.ensures.from r.ensures.to, p.1, p.2))
 
 pub write_entries-offset_bounds-row-i : goal.write_entries-offset_bounds-row-i
 write_entries-offset_bounds-row-i t c = word_fits c.loop-i-test.true c.requires.0.range.few
@@ -121,7 +121,7 @@ write_entries-overflow_add-at t c =
     let h = c.loop-i-test.true in
     let w = c.write_below-w in
     let g = turn_done l.invariant h (c.requires.0.range.stands l.i h) c.run_end-next.ensures w.ensures.tables w.auto.out c.write_record-added.ensures (ap not c.if-not-w-added.false) in
-    omega (arith, g.inside, c.requires.5, c.requires.6, c.WELL_FORMED.1.1.1.1.1.1.1.1.1.1.0)
+    omega (arith, g.inside, c.requires.5, c.requires.6, c.ranges.out)
 
 pub write_entries-overflow_add-tail : goal.write_entries-overflow_add-tail
 write_entries-overflow_add-tail t c =
@@ -129,7 +129,7 @@ write_entries-overflow_add-tail t c =
     let h = c.loop-i-test.true in
     let w = c.write_below-w in
     let g = turn_done l.invariant h (c.requires.0.range.stands l.i h) c.run_end-next.ensures w.ensures.tables w.auto.out c.write_record-added.ensures (ap not c.if-not-w-added.false) in
-    omega (arith, g.fits, c.WELL_FORMED.1.1.1.1.1.1.1.1.1.1.0)
+    omega (arith, g.fits, c.ranges.out)
 
 pub write_entries-loop-i-smaller : goal.write_entries-loop-i-smaller
 write_entries-loop-i-smaller t c = range_falls c.loop-i-test.true c.run_end-next.ensures.from c.run_end-next.ensures.to
@@ -181,7 +181,7 @@ pub write_below-write_page-w-requires : goal.write_below-write_page-w-requires
 write_below-write_page-w-requires t c =
     let a = c.args in
     let some = gap_layer a.layer (record_in a.s.now a.u.now a.row.now) a.lo (a.hi - a.lo) a.out.now a.out.now c.has_page.result c.has_page.ensures (ap not c.if-not-has_page.false) in
-    (omega (arith, c.MEASURE, some), c.requires)
+    (omega (arith, c.decreases, some), c.requires)
 
 pub write_below-below_of-requires : goal.write_below-below_of-requires
 write_below-below_of-requires t c =
@@ -237,7 +237,7 @@ write_page-write_below-left-requires t c =
     let p = c.requires in
     let m = c.measure-size in
     let run = m.ensures.size.run in
-    (two_below c.MEASURE, (ready_within p.0 c.args.lo m.result.first m.ensures.memory (m.auto.notes ∙ p.0.slots) run.from run.to, p.1, p.2))
+    (two_below c.decreases, (ready_within p.0 c.args.lo m.result.first m.ensures.memory (m.auto.notes ∙ p.0.slots) run.from run.to, p.1, p.2))
 
 pub write_page-shape_of-keys-then-not-left : goal.write_page-shape_of-keys-then-not-left
 write_page-shape_of-keys-then-not-left t c = c.write_below-left.auto.keys ∙ c.measure-size.auto.keys
@@ -259,7 +259,7 @@ pub write_page-overflow_sub-own : goal.write_page-overflow_sub-own
 write_page-overflow_sub-own t c = foot_within (begun t c) c.if-not-left.false _ c.page_end_length.ensures.0
 
 pub write_page-overflow_add-own : goal.write_page-overflow_add-own
-write_page-overflow_add-own t c = omega (arith, tail_fits (begun t c) c.if-not-left.false, c.WELL_FORMED.1.1.1.1.1.1.1.1.1.1.0)
+write_page-overflow_add-own t c = omega (arith, tail_fits (begun t c) c.if-not-left.false, c.ranges.out)
 
 pub write_page-write_entries-laid-requires : goal.write_page-write_entries-laid-requires
 write_page-write_entries-laid-requires t c =
@@ -270,7 +270,7 @@ write_page-write_entries-laid-requires t c =
     let x = c.write_page_start-start in
     let run = b.sized.run in
     let places = places b e x.result c.page_end_length.result x.new.out x.ensures.count c.page_end_length.ensures.0 (x.auto.out ∙ first_length b e) in (
-      next_below (3 * c.args.layer) c.MEASURE,
+      next_below (3 * c.args.layer) c.decreases,
       (
         ready_within p.0 c.measure-size.result.first c.args.hi w.ensures.memory (w.auto.notes ∙ c.measure-size.auto.notes ∙ p.0.slots) run.to (le_refl _),
         p.1,
@@ -312,15 +312,15 @@ write_page-write_page_end-requires t c = end_room (entered t c) c.if-not-laid.fa
 
 pub write_page-overflow_add-page : goal.write_page-overflow_add-page
 write_page-overflow_add-page t c =
-    omega (arith, whole_fits (entered t c) c.if-not-laid.false, c.write_page_end.ensures.count, c.WELL_FORMED.1.1.1.1.1.1.1.1.1.1.0)
+    omega (arith, whole_fits (entered t c) c.if-not-laid.false, c.write_page_end.ensures.count, c.ranges.out)
 
 pub write_page-overflow_add-result : goal.write_page-overflow_add-result
 write_page-overflow_add-result t c =
-    omega (arith, whole_fits (entered t c) c.if-not-laid.false, c.write_page_end.ensures.count, c.WELL_FORMED.1.1.1.1.1.1.1.1.1.1.0)
+    omega (arith, whole_fits (entered t c) c.if-not-laid.false, c.write_page_end.ensures.count, c.ranges.out)
 
 pub write_page-overflow_add-result-2 : goal.write_page-overflow_add-result-2
 write_page-overflow_add-result-2 t c =
-    omega (arith, whole_fits (entered t c) c.if-not-laid.false, c.write_page_end.ensures.count, c.WELL_FORMED.1.1.1.1.1.1.1.1.1.1.0)
+    omega (arith, whole_fits (entered t c) c.if-not-laid.false, c.write_page_end.ensures.count, c.ranges.out)
 
 pub write_page-shape_of-keys : goal.write_page-shape_of-keys
 write_page-shape_of-keys t c = c.write_entries-laid.auto.keys ∙ c.write_below-left.auto.keys ∙ c.measure-size.auto.keys

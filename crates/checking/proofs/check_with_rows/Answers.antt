@@ -1,0 +1,19 @@
+use Rattle.reading.proofs.Verdicts.{accepted_rows, judged_refused}
+use Rattle.checking.proofs.Heads.{checked, check_refused}
+use Rattle.checking.proofs.check_with_rows.Goals as goal
+
+pub head_of-requires : goal.head_of-requires
+head_of-requires c =
+    let j = c.judge in
+    accepted_rows _ _ _ j.result j.ensures c.in-Accepted.is
+
+pub returns-in-Accepted : goal.returns-in-Accepted
+returns-in-Accepted c =
+    let j = c.judge in
+    let a = (accepted_rows _ _ _ j.result j.ensures c.in-Accepted.is).0 in
+    checked _ c.head_of.result a.tree a.judged (c.head_of.ensures a.tree a.judged)
+
+pub returns-in-Refused : goal.returns-in-Refused
+returns-in-Refused c =
+    let j = c.judge in
+    rw c.zero_head.ensures (check_refused _ _ (judged_refused _ _ _ j.result j.ensures c.in-Refused.is))
