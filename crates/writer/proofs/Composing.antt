@@ -118,6 +118,11 @@ pub record Begun (s u row : List ℕ) (lo hi n : ℕ) (o : List ℕ) (z : Size) 
   pub room : z.own ≤ length o
   pub gap : GapWritten (gap_at s u row lo z.first n) (lent z.own o) ys w
 
+-- by what the calls before it say
+pub begun : (s u row : List ℕ) (lo hi n : ℕ) (o : List ℕ) (z : Size) (ys : List ℕ) (w : Below)
+    → Sized s u row lo hi n (length o) z → z.own ≤ length o → GapWritten (gap_at s u row lo z.first n) (lent z.own o) ys w → Begun s u row lo hi n o z ys w
+begun s u row lo hi n o z ys w sized room gap = record { sized = sized; room = room; gap = gap }
+
 module _ {s u row : List ℕ} {lo hi n : ℕ} {o : List ℕ} {z : Size} {ys : List ℕ} {w : Below} (b : Begun s u row lo hi n o z ys w) where
   abbrev f : ℕ → Placed Record
   f = record_in s u row

@@ -9,26 +9,7 @@ use Rattle.labels.proofs.Labels.{each_labelled}
 use Rattle.layout.proofs.RowRecords.{row_top, row_top_small}
 use Rattle.writer.proofs.Whole.{used_length, WrittenInto, row_written, len_small, len_fits, root_fits, output_is}
 use Rattle.writer.proofs.Heads.{head_kept, head_moved}
-use Rattle.writer.proofs.write_headed.Reads as reads
-use Rattle.layout.proofs.runs.top_layer.Reads as top-layer-reads
-use Rattle.writer.proofs.finish.Reads as finish-reads
-use Rattle.writer.proofs.refusal.refuse_headed.Reads as refuse-headed-reads
-use Rattle.writer.proofs.used.Reads as used-reads
-use Rattle.writer.proofs.write_pages.Reads as write-pages-reads
-use Rattle.writer.proofs.written_digest.Reads as written-digest-reads
 use Rattle.writer.proofs.write_headed.Goals as goal
-
--- the pages are written into the front of the output
-abbrev Pages : Type 0
-Pages = lts.After-write-pages (top-layer-reads.Asked, top-layer-reads.Learnt, used-reads.Asked, used-reads.Learnt, write-pages-reads.Asked, write-pages-reads.Learnt, refuse-headed-reads.Asked, refuse-headed-reads.Learnt, written-digest-reads.Asked, written-digest-reads.Learnt, finish-reads.Asked, finish-reads.Learnt) reads.Pre reads.Post
-
-into : (c : Pages)
-    → let a = c.before.before.before.before.before.before.before.before.before.before.before.before.before.args in
-    WrittenInto (tree_of_set (records_of a.s.now a.u.now a.row.now a.n)) a.out.now c.before.before.before.before.used.result c.write-pages.new.1.1.1.1.1.1.1.0 c.write-pages.result
-into c =
-    let start = c.before.before.before.before.before.before.before.before.before.before.before.before.before in
-    let top = c.before.before.before.before.before.top-layer in
-    row_written start.requires.0 top.result (top.ensures start.args.s.now start.args.u.now) c.before.before.before.before.used.ensures c.write-pages.auto.1.1.1.1.1.1.1.0 c.write-pages.ensures
 
 pub slice_bounds-labels-end : goal.slice_bounds-labels-end
 slice_bounds-labels-end c = sym (length-take-le (2 * c.args.first_count) c.args.first_chains.now c.requires.1.room)
@@ -49,17 +30,22 @@ write_pages-w-requires c =
 pub returns-then-not-w : goal.returns-then-not-w
 unfolding table_of
 returns-then-not-w c =
+    let into : WrittenInto (tree_of_set (records_of c.args.s.now c.args.u.now c.args.row.now c.args.n)) c.args.out.now c.used-room.result c.write_pages-w.new.room c.write_pages-w.result = row_written c.requires.0 c.top_layer-top.result (c.top_layer-top.ensures c.args.s.now c.args.u.now) c.used-room.ensures c.write_pages-w.auto.room c.write_pages-w.ensures in
     let a = c.args in
     let none = c.if-not-w.true in record {
-      headed = c.refuse_headed.ensures.headed ∙ head_kept (records_of a.s.now a.u.now a.row.now a.n) a.head (into wrote) none;
-      output = c.refuse_headed.ensures.output ∙ rw none at (output_is (into wrote));
+      headed = c.refuse_headed.ensures.headed ∙ head_kept (records_of a.s.now a.u.now a.row.now a.n) a.head into none;
+      output = c.refuse_headed.ensures.output ∙ rw none at (output_is into);
     }
 
 pub slice_bounds-written_digest-end : goal.slice_bounds-written_digest-end
-slice_bounds-written_digest-end c = root_fits (into c) (c.if-not-w.false)
+slice_bounds-written_digest-end c =
+    let into : WrittenInto (tree_of_set (records_of c.args.s.now c.args.u.now c.args.row.now c.args.n)) c.args.out.now c.used-room.result c.write_pages-w.new.room c.write_pages-w.result = row_written c.requires.0 c.top_layer-top.result (c.top_layer-top.ensures c.args.s.now c.args.u.now) c.used-room.ensures c.write_pages-w.auto.room c.write_pages-w.ensures in
+    root_fits into (c.if-not-w.false)
 
 pub slice_bounds-written_digest-end-2 : goal.slice_bounds-written_digest-end-2
-slice_bounds-written_digest-end-2 c = sym (length-take-le _ _ (root_fits (into c) (c.if-not-w.false)))
+slice_bounds-written_digest-end-2 c =
+    let into : WrittenInto (tree_of_set (records_of c.args.s.now c.args.u.now c.args.row.now c.args.n)) c.args.out.now c.used-room.result c.write_pages-w.new.room c.write_pages-w.result = row_written c.requires.0 c.top_layer-top.result (c.top_layer-top.ensures c.args.s.now c.args.u.now) c.used-room.ensures c.write_pages-w.auto.room c.write_pages-w.ensures in
+    sym (length-take-le _ _ (root_fits into (c.if-not-w.false)))
 
 pub written_digest-digest-requires : goal.written_digest-digest-requires
 written_digest-digest-requires c =
@@ -76,17 +62,19 @@ overflow_cast-layer c =
 
 pub finish-answer-requires : goal.finish-answer-requires
 finish-answer-requires c e =
-    let w = into c in
+    let into : WrittenInto (tree_of_set (records_of c.args.s.now c.args.u.now c.args.row.now c.args.n)) c.args.out.now c.used-room.result c.write_pages-w.new.room c.write_pages-w.result = row_written c.requires.0 c.top_layer-top.result (c.top_layer-top.ensures c.args.s.now c.args.u.now) c.used-room.ensures c.write_pages-w.auto.room c.write_pages-w.ensures in
+    let w = into in
     let fits = c.if-not-w.false in
     (len_fits w fits, len_small w fits)
 
 pub returns : goal.returns
 unfolding table_of
 returns c =
+    let into : WrittenInto (tree_of_set (records_of c.args.s.now c.args.u.now c.args.row.now c.args.n)) c.args.out.now c.used-room.result c.write_pages-w.new.room c.write_pages-w.result = row_written c.requires.0 c.top_layer-top.result (c.top_layer-top.ensures c.args.s.now c.args.u.now) c.used-room.ensures c.write_pages-w.auto.room c.write_pages-w.ensures in
     let a = c.args in
     let top = c.top_layer-top in
     let fits = c.if-not-w.false in record {
-      headed = head_moved (records_of a.s.now a.u.now a.row.now a.n) a.head (into wrote) fits c.finish-answer.ensures.answer (sym (records_length a.s.now a.u.now a.row.now a.n c.requires.0.room))
+      headed = head_moved (records_of a.s.now a.u.now a.row.now a.n) a.head into fits c.finish-answer.ensures.answer (sym (records_length a.s.now a.u.now a.row.now a.n c.requires.0.room))
           (row_top c.requires.0 top.result (top.ensures a.s.now a.u.now)) c.written_digest-digest.ensures;
-      output = c.finish-answer.ensures.output ∙ rw fits at (output_is (into wrote));
+      output = c.finish-answer.ensures.output ∙ rw fits at (output_is into);
     }

@@ -10,34 +10,9 @@ use Rattle.layout.proofs.Holding.{same_memory}
 use Rattle.writer.proofs.Falling.{one_below, two_below, next_below}
 use Rattle.writer.proofs.Gaps.{no_room, own_fits, gap_layer, gap_nothing, gap_below}
 use Rattle.writer.proofs.Turns.{ready_within, still_holding, starts, out_length, tail_within, tail_grown, limit_within, turn_length, laid_all, turn_done, turn_refused}
-use Rattle.writer.proofs.Composing.{own_lacks, Begun, left_lacks, tail_fits, first_length, start_room, foot_within, places, Entered, entries_lack, at_within, whole_fits, end_room, end_length, finishes}
+use Rattle.writer.proofs.Composing.{own_lacks, begun, left_lacks, tail_fits, first_length, start_room, foot_within, places, Entered, entries_lack, at_within, whole_fits, end_room, end_length, finishes}
 use Prim.Native.Nat.{ℕ}
 use Rattle.writer.proofs.pages.+write_below_write_entries_write_page.Goals as goal
-
-begun : (t : ℕ) (c : write-page-lts.After-write-below (write-page-claims t) (write_page_at t) write-page.Post)
-    → let a = c.before.before.before.before.before.before.before.before.before.before.before.before.before.before.before.before.before.before.before.before.args in
-    Begun a.s.now a.u.now a.row.now a.lo a.hi a.layer a.out.now c.before.before.before.before.before.before.before.before.before.measure.result c.write-below.new.1.1.1.1.1.1.1.1.1.1.0 c.write-below.result
-begun t c = record { sized = c.before.before.before.before.before.before.before.before.before.measure.ensures.0; room = c.before.before.before.before.if1.false; gap = c.write-below.ensures.0 }
-
-entered : (t : ℕ) (c : write-page-lts.After-write-entries (write-page-claims t) (write_page_at t) write-page.Post)
-    → let a = c.before.before.before.before.before.before.before.before.before.before.before.before.before.before.before.before.before.before.before.before.before.before.before.before.before.before.before.before.before.before.before.before.before.before.before.before.before.before.before.args in
-    let w = c.before.before.before.before.before.before.before.before.before.before.before.before.before.before.before.before.before.before.before.write-below in
-    Entered a.s.now a.u.now a.row.now a.lo a.hi a.layer a.out.now c.before.before.before.before.before.before.before.before.before.before.before.before.before.before.before.before.before.before.before.before.before.before.before.before.before.before.before.before.measure.result w.new.1.1.1.1.1.1.1.1.1.1.0 w.result
-    c.write_entries.new.1.1.1.1.1.1.1.1.1.1.0 c.write_entries.result
-entered t c =
-    let b = begun t c.before.before.before.before.before.before.before.before.before.before.before.before.before.before.before.before.before.before.before in
-    let x = c.before.before.before.before.before.before.before.before.before.write-page-start in
-    record {
-      begun = b;
-      fine = c.before.before.before.before.before.before.before.before.before.before.before.if2.false;
-      x = x.new.0;
-      start = x.result;
-      is = x.ensures.0;
-      place = x.ensures.1;
-      same = x.auto.0 ∙ first_length b c.before.before.before.before.before.before.before.before.before.before.before.if2.false;
-      kept = c.write_entries.auto.1.1.1.1.1.1.1.1.1.1.0 ∙ x.auto.0 ∙ first_length b c.before.before.before.before.before.before.before.before.before.before.before.if2.false;
-      laid = rw c.before.before.page-end-length.ensures.0 at c.write_entries.ensures.0;
-    }
 
 pub write_entries-loop-i-init : goal.write_entries-loop-i-init
 write_entries-loop-i-init t c =
@@ -121,7 +96,7 @@ write_entries-overflow_add-at t c =
     let h = c.loop-i-test.true in
     let w = c.write_below-w in
     let g = turn_done l.invariant h (c.requires.0.range.stands l.i h) c.run_end-next.ensures w.ensures.tables w.auto.out c.write_record-added.ensures (ap not c.if-not-w-added.false) in
-    omega (arith, g.inside, c.requires.5, c.requires.6, c.ranges.out)
+    omega (arith, g.inside, c.requires.5, c.requires.6)
 
 pub write_entries-overflow_add-tail : goal.write_entries-overflow_add-tail
 write_entries-overflow_add-tail t c =
@@ -129,7 +104,7 @@ write_entries-overflow_add-tail t c =
     let h = c.loop-i-test.true in
     let w = c.write_below-w in
     let g = turn_done l.invariant h (c.requires.0.range.stands l.i h) c.run_end-next.ensures w.ensures.tables w.auto.out c.write_record-added.ensures (ap not c.if-not-w-added.false) in
-    omega (arith, g.fits, c.ranges.out)
+    omega (arith, g.fits)
 
 pub write_entries-loop-i-smaller : goal.write_entries-loop-i-smaller
 write_entries-loop-i-smaller t c = range_falls c.loop-i-test.true c.run_end-next.ensures.from c.run_end-next.ensures.to
@@ -248,23 +223,23 @@ write_page-shape_of-notes-then-not-left t c = c.write_below-left.auto.notes ∙ 
 pub write_page-returns-then-not-left : goal.write_page-returns-then-not-left
 write_page-returns-then-not-left t c =
     record {
-      table = no_room _ c.args.out.now _ _ (left_lacks (begun t w) c.if-not-left.true) c.no_room-then-not-left.ensures;
+      table = no_room _ c.args.out.now _ _ (left_lacks (begun c.args.s.now c.args.u.now c.args.row.now c.args.lo c.args.hi c.args.layer c.args.out.now c.measure-size.result c.write_below-left.new.out c.write_below-left.result c.measure-size.ensures.size c.if-out-own.false c.write_below-left.ensures.tables) c.if-not-left.true) c.no_room-then-not-left.ensures;
       memory = c.write_below-left.ensures.memory;
     }
 
 pub write_page-write_page_start-start-requires : goal.write_page-write_page_start-start-requires
-write_page-write_page_start-start-requires t c = start_room (begun t c) c.if-not-left.false
+write_page-write_page_start-start-requires t c = start_room (begun c.args.s.now c.args.u.now c.args.row.now c.args.lo c.args.hi c.args.layer c.args.out.now c.measure-size.result c.write_below-left.new.out c.write_below-left.result c.measure-size.ensures.size c.if-out-own.false c.write_below-left.ensures.tables) c.if-not-left.false
 
 pub write_page-overflow_sub-own : goal.write_page-overflow_sub-own
-write_page-overflow_sub-own t c = foot_within (begun t c) c.if-not-left.false _ c.page_end_length.ensures.0
+write_page-overflow_sub-own t c = foot_within (begun c.args.s.now c.args.u.now c.args.row.now c.args.lo c.args.hi c.args.layer c.args.out.now c.measure-size.result c.write_below-left.new.out c.write_below-left.result c.measure-size.ensures.size c.if-out-own.false c.write_below-left.ensures.tables) c.if-not-left.false _ c.page_end_length.ensures.0
 
 pub write_page-overflow_add-own : goal.write_page-overflow_add-own
-write_page-overflow_add-own t c = omega (arith, tail_fits (begun t c) c.if-not-left.false, c.ranges.out)
+write_page-overflow_add-own t c = omega (arith, tail_fits (begun c.args.s.now c.args.u.now c.args.row.now c.args.lo c.args.hi c.args.layer c.args.out.now c.measure-size.result c.write_below-left.new.out c.write_below-left.result c.measure-size.ensures.size c.if-out-own.false c.write_below-left.ensures.tables) c.if-not-left.false)
 
 pub write_page-write_entries-laid-requires : goal.write_page-write_entries-laid-requires
 write_page-write_entries-laid-requires t c =
     let p = c.requires in
-    let b = begun t c in
+    let b = begun c.args.s.now c.args.u.now c.args.row.now c.args.lo c.args.hi c.args.layer c.args.out.now c.measure-size.result c.write_below-left.new.out c.write_below-left.result c.measure-size.ensures.size c.if-out-own.false c.write_below-left.ensures.tables in
     let e = c.if-not-left.false in
     let w = c.write_below-left in
     let x = c.write_page_start-start in
@@ -289,38 +264,154 @@ pub write_page-shape_of-notes-then-not-laid : goal.write_page-shape_of-notes-the
 write_page-shape_of-notes-then-not-laid t c = c.write_entries-laid.auto.notes ∙ c.write_below-left.auto.notes ∙ c.measure-size.auto.notes
 
 pub write_page-shape_of-out-then-not-laid : goal.write_page-shape_of-out-then-not-laid
-write_page-shape_of-out-then-not-laid t c = (entered t c).kept
+write_page-shape_of-out-then-not-laid t c =
+    let b = begun c.args.s.now c.args.u.now c.args.row.now c.args.lo c.args.hi c.args.layer c.args.out.now c.measure-size.result c.write_below-left.new.out c.write_below-left.result c.measure-size.ensures.size c.if-out-own.false c.write_below-left.ensures.tables in
+    let x = c.write_page_start-start in
+    let none = c.if-not-left.false in
+    let entered : Entered c.args.s.now c.args.u.now c.args.row.now c.args.lo c.args.hi c.args.layer c.args.out.now c.measure-size.result c.write_below-left.new.out c.write_below-left.result c.write_entries-laid.new.out c.write_entries-laid.result = record {
+      begun = b;
+      fine = none;
+      x = x.new.out;
+      start = x.result;
+      is = x.ensures.output;
+      place = x.ensures.count;
+      same = x.auto.out ∙ first_length b none;
+      kept = c.write_entries-laid.auto.out ∙ x.auto.out ∙ first_length b none;
+      laid = rw c.page_end_length.ensures.0 at c.write_entries-laid.ensures.entries;
+    } in
+    entered.kept
 
 pub write_page-returns-then-not-laid : goal.write_page-returns-then-not-laid
 write_page-returns-then-not-laid t c =
+    let b = begun c.args.s.now c.args.u.now c.args.row.now c.args.lo c.args.hi c.args.layer c.args.out.now c.measure-size.result c.write_below-left.new.out c.write_below-left.result c.measure-size.ensures.size c.if-out-own.false c.write_below-left.ensures.tables in
+    let x = c.write_page_start-start in
+    let none = c.if-not-left.false in
+    let entered : Entered c.args.s.now c.args.u.now c.args.row.now c.args.lo c.args.hi c.args.layer c.args.out.now c.measure-size.result c.write_below-left.new.out c.write_below-left.result c.write_entries-laid.new.out c.write_entries-laid.result = record {
+      begun = b;
+      fine = none;
+      x = x.new.out;
+      start = x.result;
+      is = x.ensures.output;
+      place = x.ensures.count;
+      same = x.auto.out ∙ first_length b none;
+      kept = c.write_entries-laid.auto.out ∙ x.auto.out ∙ first_length b none;
+      laid = rw c.page_end_length.ensures.0 at c.write_entries-laid.ensures.entries;
+    } in
     record {
-      table = no_room _ c.args.out.now _ _ (entries_lack (entered t w) c.if-not-laid.true) c.no_room-then-not-laid.ensures;
+      table = no_room _ c.args.out.now _ _ (entries_lack entered c.if-not-laid.true) c.no_room-then-not-laid.ensures;
       memory = c.write_entries-laid.ensures.memory;
     }
 
 pub write_page-slice_bounds-write_page_end-count : goal.write_page-slice_bounds-write_page_end-count
-write_page-slice_bounds-write_page_end-count t c = at_within (entered t c) c.if-not-laid.false
+write_page-slice_bounds-write_page_end-count t c =
+    let b = begun c.args.s.now c.args.u.now c.args.row.now c.args.lo c.args.hi c.args.layer c.args.out.now c.measure-size.result c.write_below-left.new.out c.write_below-left.result c.measure-size.ensures.size c.if-out-own.false c.write_below-left.ensures.tables in
+    let x = c.write_page_start-start in
+    let none = c.if-not-left.false in
+    let entered : Entered c.args.s.now c.args.u.now c.args.row.now c.args.lo c.args.hi c.args.layer c.args.out.now c.measure-size.result c.write_below-left.new.out c.write_below-left.result c.write_entries-laid.new.out c.write_entries-laid.result = record {
+      begun = b;
+      fine = none;
+      x = x.new.out;
+      start = x.result;
+      is = x.ensures.output;
+      place = x.ensures.count;
+      same = x.auto.out ∙ first_length b none;
+      kept = c.write_entries-laid.auto.out ∙ x.auto.out ∙ first_length b none;
+      laid = rw c.page_end_length.ensures.0 at c.write_entries-laid.ensures.entries;
+    } in
+    at_within entered c.if-not-laid.false
 
 pub write_page-slice_bounds-write_page_end-start : goal.write_page-slice_bounds-write_page_end-start
-write_page-slice_bounds-write_page_end-start t c = at_within (entered t c) c.if-not-laid.false
+write_page-slice_bounds-write_page_end-start t c =
+    let b = begun c.args.s.now c.args.u.now c.args.row.now c.args.lo c.args.hi c.args.layer c.args.out.now c.measure-size.result c.write_below-left.new.out c.write_below-left.result c.measure-size.ensures.size c.if-out-own.false c.write_below-left.ensures.tables in
+    let x = c.write_page_start-start in
+    let none = c.if-not-left.false in
+    let entered : Entered c.args.s.now c.args.u.now c.args.row.now c.args.lo c.args.hi c.args.layer c.args.out.now c.measure-size.result c.write_below-left.new.out c.write_below-left.result c.write_entries-laid.new.out c.write_entries-laid.result = record {
+      begun = b;
+      fine = none;
+      x = x.new.out;
+      start = x.result;
+      is = x.ensures.output;
+      place = x.ensures.count;
+      same = x.auto.out ∙ first_length b none;
+      kept = c.write_entries-laid.auto.out ∙ x.auto.out ∙ first_length b none;
+      laid = rw c.page_end_length.ensures.0 at c.write_entries-laid.ensures.entries;
+    } in
+    at_within entered c.if-not-laid.false
 
 pub write_page-slice_bounds-write_page_end-end : goal.write_page-slice_bounds-write_page_end-end
 write_page-slice_bounds-write_page_end-end t c = le_refl _
 
 pub write_page-write_page_end-requires : goal.write_page-write_page_end-requires
-write_page-write_page_end-requires t c = end_room (entered t c) c.if-not-laid.false
+write_page-write_page_end-requires t c =
+    let b = begun c.args.s.now c.args.u.now c.args.row.now c.args.lo c.args.hi c.args.layer c.args.out.now c.measure-size.result c.write_below-left.new.out c.write_below-left.result c.measure-size.ensures.size c.if-out-own.false c.write_below-left.ensures.tables in
+    let x = c.write_page_start-start in
+    let none = c.if-not-left.false in
+    let entered : Entered c.args.s.now c.args.u.now c.args.row.now c.args.lo c.args.hi c.args.layer c.args.out.now c.measure-size.result c.write_below-left.new.out c.write_below-left.result c.write_entries-laid.new.out c.write_entries-laid.result = record {
+      begun = b;
+      fine = none;
+      x = x.new.out;
+      start = x.result;
+      is = x.ensures.output;
+      place = x.ensures.count;
+      same = x.auto.out ∙ first_length b none;
+      kept = c.write_entries-laid.auto.out ∙ x.auto.out ∙ first_length b none;
+      laid = rw c.page_end_length.ensures.0 at c.write_entries-laid.ensures.entries;
+    } in
+    end_room entered c.if-not-laid.false
 
 pub write_page-overflow_add-page : goal.write_page-overflow_add-page
 write_page-overflow_add-page t c =
-    omega (arith, whole_fits (entered t c) c.if-not-laid.false, c.write_page_end.ensures.count, c.ranges.out)
+    let b = begun c.args.s.now c.args.u.now c.args.row.now c.args.lo c.args.hi c.args.layer c.args.out.now c.measure-size.result c.write_below-left.new.out c.write_below-left.result c.measure-size.ensures.size c.if-out-own.false c.write_below-left.ensures.tables in
+    let x = c.write_page_start-start in
+    let none = c.if-not-left.false in
+    let entered : Entered c.args.s.now c.args.u.now c.args.row.now c.args.lo c.args.hi c.args.layer c.args.out.now c.measure-size.result c.write_below-left.new.out c.write_below-left.result c.write_entries-laid.new.out c.write_entries-laid.result = record {
+      begun = b;
+      fine = none;
+      x = x.new.out;
+      start = x.result;
+      is = x.ensures.output;
+      place = x.ensures.count;
+      same = x.auto.out ∙ first_length b none;
+      kept = c.write_entries-laid.auto.out ∙ x.auto.out ∙ first_length b none;
+      laid = rw c.page_end_length.ensures.0 at c.write_entries-laid.ensures.entries;
+    } in
+    omega (arith, whole_fits entered c.if-not-laid.false, c.write_page_end.ensures.count)
 
 pub write_page-overflow_add-result : goal.write_page-overflow_add-result
 write_page-overflow_add-result t c =
-    omega (arith, whole_fits (entered t c) c.if-not-laid.false, c.write_page_end.ensures.count, c.ranges.out)
+    let b = begun c.args.s.now c.args.u.now c.args.row.now c.args.lo c.args.hi c.args.layer c.args.out.now c.measure-size.result c.write_below-left.new.out c.write_below-left.result c.measure-size.ensures.size c.if-out-own.false c.write_below-left.ensures.tables in
+    let x = c.write_page_start-start in
+    let none = c.if-not-left.false in
+    let entered : Entered c.args.s.now c.args.u.now c.args.row.now c.args.lo c.args.hi c.args.layer c.args.out.now c.measure-size.result c.write_below-left.new.out c.write_below-left.result c.write_entries-laid.new.out c.write_entries-laid.result = record {
+      begun = b;
+      fine = none;
+      x = x.new.out;
+      start = x.result;
+      is = x.ensures.output;
+      place = x.ensures.count;
+      same = x.auto.out ∙ first_length b none;
+      kept = c.write_entries-laid.auto.out ∙ x.auto.out ∙ first_length b none;
+      laid = rw c.page_end_length.ensures.0 at c.write_entries-laid.ensures.entries;
+    } in
+    omega (arith, whole_fits entered c.if-not-laid.false, c.write_page_end.ensures.count)
 
 pub write_page-overflow_add-result-2 : goal.write_page-overflow_add-result-2
 write_page-overflow_add-result-2 t c =
-    omega (arith, whole_fits (entered t c) c.if-not-laid.false, c.write_page_end.ensures.count, c.ranges.out)
+    let b = begun c.args.s.now c.args.u.now c.args.row.now c.args.lo c.args.hi c.args.layer c.args.out.now c.measure-size.result c.write_below-left.new.out c.write_below-left.result c.measure-size.ensures.size c.if-out-own.false c.write_below-left.ensures.tables in
+    let x = c.write_page_start-start in
+    let none = c.if-not-left.false in
+    let entered : Entered c.args.s.now c.args.u.now c.args.row.now c.args.lo c.args.hi c.args.layer c.args.out.now c.measure-size.result c.write_below-left.new.out c.write_below-left.result c.write_entries-laid.new.out c.write_entries-laid.result = record {
+      begun = b;
+      fine = none;
+      x = x.new.out;
+      start = x.result;
+      is = x.ensures.output;
+      place = x.ensures.count;
+      same = x.auto.out ∙ first_length b none;
+      kept = c.write_entries-laid.auto.out ∙ x.auto.out ∙ first_length b none;
+      laid = rw c.page_end_length.ensures.0 at c.write_entries-laid.ensures.entries;
+    } in
+    omega (arith, whole_fits entered c.if-not-laid.false, c.write_page_end.ensures.count)
 
 pub write_page-shape_of-keys : goal.write_page-shape_of-keys
 write_page-shape_of-keys t c = c.write_entries-laid.auto.keys ∙ c.write_below-left.auto.keys ∙ c.measure-size.auto.keys
@@ -329,11 +420,40 @@ pub write_page-shape_of-notes : goal.write_page-shape_of-notes
 write_page-shape_of-notes t c = c.write_entries-laid.auto.notes ∙ c.write_below-left.auto.notes ∙ c.measure-size.auto.notes
 
 pub write_page-shape_of-out : goal.write_page-shape_of-out
-write_page-shape_of-out t c = end_length (entered t c) c.if-not-laid.false c.write_page_end.new.out c.write_page_end.auto.out
+write_page-shape_of-out t c =
+    let b = begun c.args.s.now c.args.u.now c.args.row.now c.args.lo c.args.hi c.args.layer c.args.out.now c.measure-size.result c.write_below-left.new.out c.write_below-left.result c.measure-size.ensures.size c.if-out-own.false c.write_below-left.ensures.tables in
+    let x = c.write_page_start-start in
+    let none = c.if-not-left.false in
+    let entered : Entered c.args.s.now c.args.u.now c.args.row.now c.args.lo c.args.hi c.args.layer c.args.out.now c.measure-size.result c.write_below-left.new.out c.write_below-left.result c.write_entries-laid.new.out c.write_entries-laid.result = record {
+      begun = b;
+      fine = none;
+      x = x.new.out;
+      start = x.result;
+      is = x.ensures.output;
+      place = x.ensures.count;
+      same = x.auto.out ∙ first_length b none;
+      kept = c.write_entries-laid.auto.out ∙ x.auto.out ∙ first_length b none;
+      laid = rw c.page_end_length.ensures.0 at c.write_entries-laid.ensures.entries;
+    } in
+    end_length entered c.if-not-laid.false c.write_page_end.new.out c.write_page_end.auto.out
 
 pub write_page-returns : goal.write_page-returns
 write_page-returns t c =
+    let b = begun c.args.s.now c.args.u.now c.args.row.now c.args.lo c.args.hi c.args.layer c.args.out.now c.measure-size.result c.write_below-left.new.out c.write_below-left.result c.measure-size.ensures.size c.if-out-own.false c.write_below-left.ensures.tables in
+    let x = c.write_page_start-start in
+    let none = c.if-not-left.false in
+    let entered : Entered c.args.s.now c.args.u.now c.args.row.now c.args.lo c.args.hi c.args.layer c.args.out.now c.measure-size.result c.write_below-left.new.out c.write_below-left.result c.write_entries-laid.new.out c.write_entries-laid.result = record {
+      begun = b;
+      fine = none;
+      x = x.new.out;
+      start = x.result;
+      is = x.ensures.output;
+      place = x.ensures.count;
+      same = x.auto.out ∙ first_length b none;
+      kept = c.write_entries-laid.auto.out ∙ x.auto.out ∙ first_length b none;
+      laid = rw c.page_end_length.ensures.0 at c.write_entries-laid.ensures.entries;
+    } in
     let z = c.write_page_end in record {
-      table = finishes (entered t w) c.if-not-laid.false z.new.out z.ensures.output z.result z.ensures.count;
+      table = finishes entered c.if-not-laid.false z.new.out z.ensures.output z.result z.ensures.count;
       memory = c.write_entries-laid.ensures.memory;
     }

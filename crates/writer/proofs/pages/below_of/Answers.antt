@@ -1,3 +1,4 @@
+use borrow.Author.Tests.{not-false}
 use mathlib.Core.Path.{ap}
 use mathlib.Core.Bool.{not}
 use mathlib.Core.Path.{sym}
@@ -13,7 +14,7 @@ returns-then-not-w c =
 pub slice_bounds-page_digest-end : goal.slice_bounds-page_digest-end
 slice_bounds-page_digest-end c =
     let a = c.args in
-    sym (length-take-le a.w.own a.out.now (c.requires.3 ((ap not c.if-not-w.false))))
+    sym (length-take-le a.w.own a.out.now (c.requires.3 (not-false _ c.if-not-w.false)))
 
 pub returns : goal.returns
 returns c =
