@@ -155,7 +155,7 @@ judge_gap-offset_bounds-counts-c t c =
     let w = c.judge_tree in
     let k = gap_counted c.requires.0 c.requires.1 c.if-link-eq0.false c.if-layer-eq0.false c.linked_page-c.result c.linked_page-c.ensures
     w.result w.new.pages w.new.counts w.ensures.says (ap not c.if-not-judge_tree.false) in
-    omega (arith, k, w.auto, c.ranges.states)
+    omega (arith, k, w.auto)
 
 pub judge_gap-bounds-counts-c : goal.judge_gap-bounds-counts-c
 judge_gap-bounds-counts-c t c =
@@ -208,7 +208,7 @@ judge_gap-returns t c =
     w.result w.new.pages w.new.counts w.ensures.says (ap not c.if-not-judge_tree.false) in
     gap_whole under asked c.if-link-eq0.false c.if-layer-eq0.false to.result to.ensures
     w.result w.new.pages w.new.counts w.ensures.says (ap not c.if-not-judge_tree.false)
-    c.first_follows.result c.first_follows.ensures c.if-not-first_follows.false (omega (arith, c.if-sum-gt-MOST))
+    c.first_follows.result c.first_follows.ensures (ap not c.if-not-first_follows.false) (omega (arith, c.if-sum-gt-MOST))
     z.new.keys z.new.tags z.new.last z.result z.ensures.says
     (gap_underway under asked c.if-link-eq0.false c.if-layer-eq0.false to.result to.ensures
     w.result w.new.pages w.new.counts w.ensures.says c.if-not-judge_tree.false

@@ -1,3 +1,4 @@
+use borrow.Author.Tests.{not-true, not-false}
 use Prim.Native.Nat.{◌*◌}
 use mathlib.Core.Path.{sym, ◌∙◌}
 use native.Mathlib.Omega.{arith}
@@ -30,22 +31,22 @@ write_pages-w-requires c =
 pub returns-then-not-w : goal.returns-then-not-w
 unfolding table_of
 returns-then-not-w c =
-    let into : WrittenInto (tree_of_set (records_of c.args.s.now c.args.u.now c.args.row.now c.args.n)) c.args.out.now c.used-room.result c.write_pages-w.new.room c.write_pages-w.result = row_written c.requires.0 c.top_layer-top.result (c.top_layer-top.ensures c.args.s.now c.args.u.now) c.used-room.ensures c.write_pages-w.auto.room c.write_pages-w.ensures in
+    let into : WrittenInto (tree_of_set (records_of c.args.s.now c.args.u.now c.args.row.now c.args.n)) c.args.out.now c.used-room.result c.write_pages-w.new.out c.write_pages-w.result = row_written c.requires.0 c.top_layer-top.result (c.top_layer-top.ensures c.args.s.now c.args.u.now) c.used-room.ensures c.write_pages-w.auto.out c.write_pages-w.ensures in
     let a = c.args in
-    let none = c.if-not-w.true in record {
+    let none = (not-true _ c.if-not-w.true) in record {
       headed = c.refuse_headed.ensures.headed ∙ head_kept (records_of a.s.now a.u.now a.row.now a.n) a.head into none;
       output = c.refuse_headed.ensures.output ∙ rw none at (output_is into);
     }
 
 pub slice_bounds-written_digest-end : goal.slice_bounds-written_digest-end
 slice_bounds-written_digest-end c =
-    let into : WrittenInto (tree_of_set (records_of c.args.s.now c.args.u.now c.args.row.now c.args.n)) c.args.out.now c.used-room.result c.write_pages-w.new.room c.write_pages-w.result = row_written c.requires.0 c.top_layer-top.result (c.top_layer-top.ensures c.args.s.now c.args.u.now) c.used-room.ensures c.write_pages-w.auto.room c.write_pages-w.ensures in
-    root_fits into (c.if-not-w.false)
+    let into : WrittenInto (tree_of_set (records_of c.args.s.now c.args.u.now c.args.row.now c.args.n)) c.args.out.now c.used-room.result c.write_pages-w.new.out c.write_pages-w.result = row_written c.requires.0 c.top_layer-top.result (c.top_layer-top.ensures c.args.s.now c.args.u.now) c.used-room.ensures c.write_pages-w.auto.out c.write_pages-w.ensures in
+    root_fits into ((not-false _ c.if-not-w.false))
 
 pub slice_bounds-written_digest-end-2 : goal.slice_bounds-written_digest-end-2
 slice_bounds-written_digest-end-2 c =
-    let into : WrittenInto (tree_of_set (records_of c.args.s.now c.args.u.now c.args.row.now c.args.n)) c.args.out.now c.used-room.result c.write_pages-w.new.room c.write_pages-w.result = row_written c.requires.0 c.top_layer-top.result (c.top_layer-top.ensures c.args.s.now c.args.u.now) c.used-room.ensures c.write_pages-w.auto.room c.write_pages-w.ensures in
-    sym (length-take-le _ _ (root_fits into (c.if-not-w.false)))
+    let into : WrittenInto (tree_of_set (records_of c.args.s.now c.args.u.now c.args.row.now c.args.n)) c.args.out.now c.used-room.result c.write_pages-w.new.out c.write_pages-w.result = row_written c.requires.0 c.top_layer-top.result (c.top_layer-top.ensures c.args.s.now c.args.u.now) c.used-room.ensures c.write_pages-w.auto.out c.write_pages-w.ensures in
+    sym (length-take-le _ _ (root_fits into ((not-false _ c.if-not-w.false))))
 
 pub written_digest-digest-requires : goal.written_digest-digest-requires
 written_digest-digest-requires c =
@@ -62,18 +63,18 @@ overflow_cast-layer c =
 
 pub finish-answer-requires : goal.finish-answer-requires
 finish-answer-requires c e =
-    let into : WrittenInto (tree_of_set (records_of c.args.s.now c.args.u.now c.args.row.now c.args.n)) c.args.out.now c.used-room.result c.write_pages-w.new.room c.write_pages-w.result = row_written c.requires.0 c.top_layer-top.result (c.top_layer-top.ensures c.args.s.now c.args.u.now) c.used-room.ensures c.write_pages-w.auto.room c.write_pages-w.ensures in
+    let into : WrittenInto (tree_of_set (records_of c.args.s.now c.args.u.now c.args.row.now c.args.n)) c.args.out.now c.used-room.result c.write_pages-w.new.out c.write_pages-w.result = row_written c.requires.0 c.top_layer-top.result (c.top_layer-top.ensures c.args.s.now c.args.u.now) c.used-room.ensures c.write_pages-w.auto.out c.write_pages-w.ensures in
     let w = into in
-    let fits = c.if-not-w.false in
+    let fits = (not-false _ c.if-not-w.false) in
     (len_fits w fits, len_small w fits)
 
 pub returns : goal.returns
 unfolding table_of
 returns c =
-    let into : WrittenInto (tree_of_set (records_of c.args.s.now c.args.u.now c.args.row.now c.args.n)) c.args.out.now c.used-room.result c.write_pages-w.new.room c.write_pages-w.result = row_written c.requires.0 c.top_layer-top.result (c.top_layer-top.ensures c.args.s.now c.args.u.now) c.used-room.ensures c.write_pages-w.auto.room c.write_pages-w.ensures in
+    let into : WrittenInto (tree_of_set (records_of c.args.s.now c.args.u.now c.args.row.now c.args.n)) c.args.out.now c.used-room.result c.write_pages-w.new.out c.write_pages-w.result = row_written c.requires.0 c.top_layer-top.result (c.top_layer-top.ensures c.args.s.now c.args.u.now) c.used-room.ensures c.write_pages-w.auto.out c.write_pages-w.ensures in
     let a = c.args in
     let top = c.top_layer-top in
-    let fits = c.if-not-w.false in record {
+    let fits = (not-false _ c.if-not-w.false) in record {
       headed = head_moved (records_of a.s.now a.u.now a.row.now a.n) a.head into fits c.finish-answer.ensures.answer (sym (records_length a.s.now a.u.now a.row.now a.n c.requires.0.room))
           (row_top c.requires.0 top.result (top.ensures a.s.now a.u.now)) c.written_digest-digest.ensures;
       output = c.finish-answer.ensures.output ∙ rw fits at (output_is into);
