@@ -1,4 +1,6 @@
 // The difference of two registers. Short registers are judged with short rows, so that little is cleared.
+#![tactic(auto)]
+
 mod differ; // the difference of two registers that are accepted
 mod rows; // the call, with rows that are lent
 

@@ -1,4 +1,6 @@
 // The path of a key in a register. A short register is judged with short rows, so that little is cleared.
+#![tactic(auto)]
+
 mod pages; // the pages of the path, by the row of chains
 mod rows; // the call, with rows that are lent
 

@@ -10,6 +10,7 @@ use Prim.Native.Nat.{◌-◌}
 use native.Mathlib.Omega.{arith}
 use borrow.Author.Rules.{rules}
 use Rattle.summing.proofs.+judge_entries_judge_gap_judge_tree.Goals as goal
+use Rattle.summing.proofs.+judge_entries_judge_gap_judge_tree.Goals.{judge_tree-then-note-gt0+else-note-le-DEEPEST, judge_tree-else-note-gt0, judge_tree-then-entries-eq0+else-left-eq0, judge_tree-else-entries-eq0}
 
 pub judge_entries-loop-i-init : goal.judge_entries-loop-i-init
 judge_entries-loop-i-init t c =
@@ -211,7 +212,7 @@ judge_gap-returns t c =
     c.first_follows.result c.first_follows.ensures (ap not c.if-not-first_follows.false) (omega (arith, c.if-sum-gt-MOST))
     z.new.keys z.new.tags z.new.last z.result z.ensures.says
     (gap_underway under asked c.if-link-eq0.false c.if-layer-eq0.false to.result to.ensures
-    w.result w.new.pages w.new.counts w.ensures.says c.if-not-judge_tree.false
+    w.result w.new.pages w.new.counts w.ensures.says (ap not c.if-not-judge_tree.false)
     z.new.keys z.new.tags z.new.last
     (z.ensures.keeps (raws_in c.args.sequence.now) filed (w.ensures.keeps (c.if-not-judge_tree.false)))
     (omega (arith, z.auto, w.auto)) (omega (arith, z.auto, w.auto)))
@@ -304,8 +305,8 @@ judge_tree-returns-in-Whole-judge_entries t c =
           g.new.last g.ensures c.in-Whole.start c.in-Whole.is
           z.result z.new.pages z.new.counts z.new.keys z.new.tags
           z.new.last z.ensures c.in-Whole-judge_entries.sum c.in-Whole-judge_entries.is
-          (⊎_elim (λ x. inl (x.0.taken, x.1.left)) (λ x. inr x.left) c.if-entries-eq0.branch)
-          (⊎_elim (λ x k. omega (arith, x.1.left, c.word_note-note.ensures)) (λ x k. absurd (omega (arith, x.left, c.word_note-note.ensures))) c.if-note-gt0.branch)
+          (elim c.if-entries-eq0.branch [ judge_tree-then-entries-eq0+else-left-eq0 w ↦ inl (w.if-entries-eq0.true, w.if-left-eq0.false) | judge_tree-else-entries-eq0 w ↦ inr w.if-entries-eq0.false ])
+          (elim c.if-note-gt0.branch [ judge_tree-then-note-gt0+else-note-le-DEEPEST w ↦ λ k. omega (arith, w.if-note-le-DEEPEST.false, c.word_note-note.ensures) | judge_tree-else-note-gt0 w ↦ λ k. absurd (omega (arith, w.if-note-gt0.false, c.word_note-note.ensures)) ])
           c.note_page.new.pages c.note_page.new.counts c.note_page.ensures;
       keeps = λ h. tree_kept u.0 u.1 u.2 u.3 c.word_place-place.result c.word_place-place.ensures c.read_page.result c.read_page.ensures
           c.in-Page.p c.in-Page.is
