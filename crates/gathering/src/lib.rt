@@ -1,4 +1,6 @@
 // A register gathered from filed pages, straight into an output. The functions are for the crates above and no public calls.
+#![tactic(auto)]
+
 ghost use Rattle.std.specs.Prelude.{List, ◌≤◌, ◌<◌};
 ghost use Rattle.page.specs.Page.{RawPage};
 ghost use Rattle.summing.specs.Summed.{note_at};

@@ -1,5 +1,5 @@
 -- What the contracts inside this crate cite, and no public contract does.
-use Rattle.std.specs.Prelude.{ℕ, ◌+◌, ◌^◌, ◌≤◌, ◌<◌, ◌≡◌, List, [], length, get_or}
+use Rattle.std.specs.Prelude.{ℕ, ◌+◌, ◌≤◌, ◌<◌, ◌≡◌, List, [], length, get_or}
 use Rattle.value.specs.Value.{digest_length, digest_in}
 use Rattle.links.specs.Links.{AllName, Rising}
 use Rattle.filing.specs.Filed.{link_named}
@@ -15,5 +15,5 @@ pub record RootStands (s p labels : List ℕ) (n place : ℕ) : Type 0 where
   pub names : AllName s p [] labels n
   pub order : Rising (link_named s p) labels n
   pub within : place + digest_length ≤ length s
-  pub small : length s < 2 ^ 24
+  pub small : length s ≤ 4194304
   pub there : (i : ℕ) × RootIs s p labels n place i

@@ -1,0 +1,183 @@
+use borrow.Author.Rules.{rules}
+use Prim.Native.Nat.{◌-◌}
+use mathlib.Core.Path.{refl}
+use native.Mathlib.Omega.{arith}
+use Rattle.gathering.proofs.Falling.{link_falls, below_one, below_two, one_less}
+use Rattle.gathering.proofs.Trees.{link_none, link_leads_on, layer_above, next_stands, link_followed}
+use Rattle.gathering.proofs.Pages.{tree_goes_on, own_ahead, own_within, left_stands, row_stands, no_room_own, leaf_written, own_inside, no_room_left, both_inside, left_fits, no_room_row, tree_written, tree_fits}
+use Rattle.gathering.proofs.Turns.{turns_begin, turns_end, total_within, turns_go_on, turn_stands, turn_gathered, turn_fits, no_room_turn}
+use Rattle.gathering.proofs.+gather_entries_gather_link_gather_tree.Goals as goal
+
+pub gather_entries-loop-j-init : goal.gather_entries-loop-j-init
+gather_entries-loop-j-init t c = (omega arith, refl, λ g. turns_begin g _)
+
+pub gather_entries-slice_bounds-gather_link-count : goal.gather_entries-slice_bounds-gather_link-count
+gather_entries-slice_bounds-gather_link-count t c = let l = c.loop-j in total_within c.requires (l.invariant.2 c.requires) l.invariant.1
+
+pub gather_entries-slice_bounds-gather_link-start : goal.gather_entries-slice_bounds-gather_link-start
+gather_entries-slice_bounds-gather_link-start t c = let l = c.loop-j in total_within c.requires (l.invariant.2 c.requires) l.invariant.1
+
+pub gather_entries-gather_link-requires : goal.gather_entries-gather_link-requires
+gather_entries-gather_link-requires t c =
+    let g = c.requires in
+    let e = c.e-1.given in
+    (below_one c.decreases, turn_stands g (c.loop-j.invariant.2 g) c.loop-j-test.true _ c.locate_entry.ensures e.0.0 e.1)
+
+pub gather_entries-overflow_add-total : goal.gather_entries-overflow_add-total
+gather_entries-overflow_add-total t c =
+    let g = c.requires in
+    let l = c.loop-j in
+    let e = c.e-1.given in
+    let w = c.gather_link in
+    let more = c.more-1.given in
+    omega (arith, turn_fits g (l.invariant.2 g) c.loop-j-test.true _ c.locate_entry.ensures e.0.0 e.1 l.invariant.1 _ _ w.ensures more.0.0 more.1 w.auto.out, c.ranges.out)
+
+pub gather_entries-returns-in-NoRoom : goal.gather_entries-returns-in-NoRoom
+gather_entries-returns-in-NoRoom t c =
+    let l = c.loop-j in
+    let e = c.e-1.given in
+    λ g. no_room_turn g (l.invariant.2 g) c.loop-j-test.true _ c.locate_entry.ensures e.0.0 e.1 l.invariant.1 _ _ c.gather_link.ensures c.in-NoRoom.is
+
+pub gather_entries-returns-in-EntryStop : goal.gather_entries-returns-in-EntryStop
+gather_entries-returns-in-EntryStop t c =
+    let l = c.loop-j in
+    let e = c.enum_told-in-EntryStop-1.given in
+    λ g. absurd (turns_go_on g (l.invariant.2 g) c.loop-j-test.true _ c.locate_entry.ensures e.0.0 e.1)
+
+pub gather_entries-loop-j-preserved : goal.gather_entries-loop-j-preserved
+gather_entries-loop-j-preserved t c =
+    let l = c.loop-j in
+    let e = c.e-1.given in
+    let h = c.loop-j-test.true in
+    let more = c.more-1.given in
+    (omega arith, search rules, λ g. turn_gathered g (l.invariant.2 g) h _ c.locate_entry.ensures e.0.0 e.1 l.invariant.1 _ _ c.gather_link.ensures more.0.0 more.1)
+
+pub gather_entries-returns : goal.gather_entries-returns
+gather_entries-returns t c = let l = c.loop-j in λ g. turns_end g (l.invariant.2 g) c.loop-j-test.false
+
+pub gather_link-returns-then-link-eq0 : goal.gather_link-returns-then-link-eq0
+gather_link-returns-then-link-eq0 t c g = link_none g c.if-link-eq0.true _
+
+pub gather_link-linked_page-i-requires : goal.gather_link-linked_page-i-requires
+gather_link-linked_page-i-requires t c = link_leads_on c.requires c.if-link-eq0.false
+
+pub gather_link-overflow_sub-layer : goal.gather_link-overflow_sub-layer
+gather_link-overflow_sub-layer t c = layer_above c.requires c.if-link-eq0.false
+
+pub gather_link-gather_tree-requires : goal.gather_link-gather_tree-requires
+gather_link-gather_tree-requires t c =
+    let g = c.requires in
+    let z = c.if-link-eq0.false in
+    let r = c.linked_page-i in
+    (link_falls c.decreases (layer_above g z), next_stands g z r.result r.ensures)
+
+pub gather_link-returns : goal.gather_link-returns
+gather_link-returns t c =
+    let r = c.linked_page-i in
+    let w = c.gather_tree in
+    λ g. link_followed g c.if-link-eq0.false r.result r.ensures c.args.out.now w.result w.new.out w.ensures
+
+pub gather_tree-overflow_sub-own : goal.gather_tree-overflow_sub-own
+gather_tree-overflow_sub-own t c = let p = c.p-1.given in own_ahead c.requires _ refl _ c.read_page.ensures p.0.0 p.1
+
+pub gather_tree-returns-then-out-own : goal.gather_tree-returns-then-out-own
+gather_tree-returns-then-out-own t c =
+    let p = c.p-1.given in λ g. no_room_own g _ refl _ c.read_page.ensures p.0.0 p.1 c.args.out.now c.if-out-own.true
+
+pub gather_tree-slice_bounds-write_bytes-count : goal.gather_tree-slice_bounds-write_bytes-count
+gather_tree-slice_bounds-write_bytes-count t c = let p = c.p-1.given in own_ahead c.requires _ refl _ c.read_page.ensures p.0.0 p.1
+
+pub gather_tree-slice_bounds-write_bytes-start : goal.gather_tree-slice_bounds-write_bytes-start
+gather_tree-slice_bounds-write_bytes-start t c = let p = c.p-1.given in own_ahead c.requires _ refl _ c.read_page.ensures p.0.0 p.1
+
+pub gather_tree-slice_bounds-write_bytes-end : goal.gather_tree-slice_bounds-write_bytes-end
+gather_tree-slice_bounds-write_bytes-end t c = let p = c.p-1.given in own_within c.requires _ refl _ c.read_page.ensures p.0.0 p.1
+
+pub gather_tree-returns-then-layer-eq0 : goal.gather_tree-returns-then-layer-eq0
+gather_tree-returns-then-layer-eq0 t c =
+    let p = c.p-1.given in
+    let w = c.write_bytes in
+    λ g. leaf_written g _ refl _ c.read_page.ensures p.0.0 p.1 _ _ w.ensures w.auto.out c.if-layer-eq0.true
+
+pub gather_tree-slice_bounds-gather_link-count : goal.gather_tree-slice_bounds-gather_link-count
+gather_tree-slice_bounds-gather_link-count t c =
+    let p = c.p-1.given in
+    let w = c.write_bytes in
+    own_inside c.requires _ refl _ c.read_page.ensures p.0.0 p.1 _ _ w.ensures w.auto.out
+
+pub gather_tree-slice_bounds-gather_link-start : goal.gather_tree-slice_bounds-gather_link-start
+gather_tree-slice_bounds-gather_link-start t c =
+    let p = c.p-1.given in
+    let w = c.write_bytes in
+    own_inside c.requires _ refl _ c.read_page.ensures p.0.0 p.1 _ _ w.ensures w.auto.out
+
+pub gather_tree-gather_link-requires : goal.gather_tree-gather_link-requires
+gather_tree-gather_link-requires t c =
+    let p = c.p-1.given in
+    (below_two c.decreases, left_stands c.requires _ refl _ c.read_page.ensures p.0.0 p.1)
+
+pub gather_tree-overflow_add-behind : goal.gather_tree-overflow_add-behind
+gather_tree-overflow_add-behind t c =
+    let p = c.p-1.given in
+    let w = c.write_bytes in
+    let l = c.gather_link in
+    let k = c.left-1.given in
+    omega (arith, left_fits c.requires _ refl _ c.read_page.ensures p.0.0 p.1 _ _ w.ensures w.auto.out _ _ l.ensures k.0.0 k.1 l.auto.out, c.ranges.out)
+
+pub gather_tree-slice_bounds-gather_entries-count : goal.gather_tree-slice_bounds-gather_entries-count
+gather_tree-slice_bounds-gather_entries-count t c =
+    let p = c.p-1.given in
+    let w = c.write_bytes in
+    let l = c.gather_link in
+    let k = c.left-1.given in
+    both_inside c.requires _ refl _ c.read_page.ensures p.0.0 p.1 _ _ w.ensures w.auto.out _ _ l.ensures k.0.0 k.1 l.auto.out
+
+pub gather_tree-slice_bounds-gather_entries-start : goal.gather_tree-slice_bounds-gather_entries-start
+gather_tree-slice_bounds-gather_entries-start t c =
+    let p = c.p-1.given in
+    let w = c.write_bytes in
+    let l = c.gather_link in
+    let k = c.left-1.given in
+    both_inside c.requires _ refl _ c.read_page.ensures p.0.0 p.1 _ _ w.ensures w.auto.out _ _ l.ensures k.0.0 k.1 l.auto.out
+
+pub gather_tree-gather_entries-requires : goal.gather_tree-gather_entries-requires
+gather_tree-gather_entries-requires t c =
+    let p = c.p-1.given in
+    (one_less _ c.decreases, row_stands c.requires _ refl _ c.read_page.ensures p.0.0 p.1)
+
+pub gather_tree-overflow_add-result : goal.gather_tree-overflow_add-result
+gather_tree-overflow_add-result t c =
+    let p = c.p-1.given in
+    let w = c.write_bytes in
+    let l = c.gather_link in
+    let k = c.left-1.given in
+    let r = c.gather_entries in
+    let m = c.below-1.given in
+    omega (arith, tree_fits c.requires _ refl _ c.read_page.ensures p.0.0 p.1 _ _ w.ensures w.auto.out _ _ l.ensures k.0.0 k.1 l.auto.out _ _ r.ensures m.0.0 m.1 r.auto.out, c.ranges.out)
+
+pub gather_tree-returns-in-Length-gather_entries : goal.gather_tree-returns-in-Length-gather_entries
+gather_tree-returns-in-Length-gather_entries t c =
+    let p = c.p-1.given in
+    let w = c.write_bytes in
+    let l = c.gather_link in
+    let k = c.left-1.given in
+    let m = c.below-1.given in
+    λ g. tree_written g _ refl _ c.read_page.ensures p.0.0 p.1 _ _ w.ensures w.auto.out _ _ l.ensures k.0.0 k.1 l.auto.out _ _ c.gather_entries.ensures m.0.0 m.1
+
+pub gather_tree-returns-in-NoRoom-gather_entries : goal.gather_tree-returns-in-NoRoom-gather_entries
+gather_tree-returns-in-NoRoom-gather_entries t c =
+    let p = c.p-1.given in
+    let w = c.write_bytes in
+    let l = c.gather_link in
+    let k = c.left-1.given in
+    λ g. no_room_row g _ refl _ c.read_page.ensures p.0.0 p.1 _ _ w.ensures w.auto.out _ _ l.ensures k.0.0 k.1 l.auto.out _ _ c.gather_entries.ensures c.in-NoRoom-gather_entries.is
+
+pub gather_tree-returns-in-NoRoom : goal.gather_tree-returns-in-NoRoom
+gather_tree-returns-in-NoRoom t c =
+    let p = c.p-1.given in
+    let w = c.write_bytes in
+    λ g. no_room_left g _ refl _ c.read_page.ensures p.0.0 p.1 _ _ w.ensures w.auto.out _ _ c.gather_link.ensures c.in-NoRoom.is
+
+pub gather_tree-returns-in-PageStop : goal.gather_tree-returns-in-PageStop
+gather_tree-returns-in-PageStop t c =
+    let e = c.enum_told-in-PageStop-1.given in λ g. absurd (tree_goes_on g _ refl _ c.read_page.ensures e.0.0 e.1)
