@@ -1,4 +1,6 @@
 // The merge of two registers. Short registers are judged with short rows, so that little is cleared.
+#![tactic(auto)]
+
 mod write; // the table of the records of two rows
 mod rows; // the call, with rows that are lent
 

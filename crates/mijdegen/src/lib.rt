@@ -1,5 +1,7 @@
 // The C interface. A slice is a pointer and a length. An answer is one number: the refusal's number alone, or 256 times the value. A head is
 // lent: the function that is called takes it by value and gives back the head to store.
+#![tactic(auto)]
+
 ghost use Rattle.std.specs.Prelude.{◌≡◌, length};
 ghost use Rattle.answer.specs.Answer.{encoded, encoded_of_two};
 ghost use Rattle.sha256.specs.Digest.{digest_answer, digest_output};

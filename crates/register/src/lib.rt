@@ -1,4 +1,6 @@
 // The calls on one register. A short register is judged with short rows, so that little is cleared.
+#![tactic(auto)]
+
 ghost use Rattle.std.specs.Prelude.{◌≡◌, length};
 ghost use Rattle.promises.specs.Outcome.{check_outcome, lookup_answer, list_outcome, list_answer, list_key, list_value, answer_of, output_of};
 ghost use Rattle.promises.specs.Moved.{put_outcome, remove_outcome, join_outcome, moved_output, headed};

@@ -1,4 +1,6 @@
 // The drawer screen. A short register is judged with short rows, so that little is cleared.
+#![tactic(auto)]
+
 mod name; // the collection's name
 mod rows; // the call, with rows that are lent
 mod show; // a screen of the records at some positions

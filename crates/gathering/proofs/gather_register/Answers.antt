@@ -1,32 +1,30 @@
 use native.Mathlib.Omega.{arith}
-use Rattle.bytestring.specs.Bytes.{Bytes}
 use Rattle.bytestring.proofs.Tools.{bytes_of_lem}
 use Rattle.gathering.proofs.Trees.{noted_stands, alone_stands, noted_gathered, alone_gathered}
-use Rattle.gathering.proofs.gather_register.Reads as reads
-use Rattle.gathering.proofs.gather_tree.Reads as gather-tree-reads
 use Rattle.gathering.proofs.gather_register.Goals as goal
-
-sequence_bytes : (c : lts.After-shared-slice-known2 (gather-tree-reads.Asked, gather-tree-reads.Learnt) reads.Pre reads.Post) → Bytes c.before.before.args.sequence.now
-sequence_bytes c = bytes_of_lem c.before.before.args.sequence.now (λ i h. omega (arith, c.shared-slice-known2.given i))
 
 pub gather_tree-requires : goal.gather_tree-requires
 gather_tree-requires c =
     let q = c.requires in
-    alone_stands q.0.1 (sequence_bytes c) c.args.i q.1 q.2 c.if-note-gt-DEEPEST.true
+    let sequence_bytes = bytes_of_lem c.args.sequence.now (λ i h. omega (arith, c.type_inv.sequence i)) in
+    alone_stands q.0.1 sequence_bytes c.args.i q.1 q.2 c.if-note-gt-DEEPEST.true
 
 pub returns-then-note-gt-DEEPEST : goal.returns-then-note-gt-DEEPEST
 returns-then-note-gt-DEEPEST c =
     let q = c.requires in
+    let sequence_bytes = bytes_of_lem c.args.sequence.now (λ i h. omega (arith, c.type_inv.sequence i)) in
     let w = c.gather_tree in
-    λ raws notes noted. alone_gathered notes (sequence_bytes c) c.args.i q.1 noted c.args.out.now w.result w.new.out c.if-note-gt-DEEPEST.true w.ensures
+    λ raws notes noted. alone_gathered notes sequence_bytes c.args.i q.1 noted c.args.out.now w.result w.new.out c.if-note-gt-DEEPEST.true w.ensures
 
 pub gather_tree-requires-2 : goal.gather_tree-requires-2
 gather_tree-requires-2 c =
     let q = c.requires in
-    noted_stands q.0.1 (sequence_bytes c) c.args.i q.1 q.2 c.if-note-gt-DEEPEST.false
+    let sequence_bytes = bytes_of_lem c.args.sequence.now (λ i h. omega (arith, c.type_inv.sequence i)) in
+    noted_stands q.0.1 sequence_bytes c.args.i q.1 q.2 c.if-note-gt-DEEPEST.false
 
 pub returns : goal.returns
 returns c =
     let q = c.requires in
+    let sequence_bytes = bytes_of_lem c.args.sequence.now (λ i h. omega (arith, c.type_inv.sequence i)) in
     let w = c.gather_tree-2 in
-    λ raws notes noted. noted_gathered notes (sequence_bytes c) c.args.i q.1 noted c.args.out.now w.result w.new.out c.if-note-gt-DEEPEST.false w.ensures
+    λ raws notes noted. noted_gathered notes sequence_bytes c.args.i q.1 noted c.args.out.now w.result w.new.out c.if-note-gt-DEEPEST.false w.ensures

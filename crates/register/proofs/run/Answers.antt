@@ -1,0 +1,13 @@
+use borrow.Author.Rules.{rules}
+use Rattle.reading.proofs.Verdicts.{index_short, chains_short, index_long, chains_long}
+use Rattle.register.proofs.run.Goals as goal
+
+pub run_with_rows-requires : goal.run_with_rows-requires
+run_with_rows-requires c =
+    let a = c.args in
+    (index_short a.register.now _ c.if-register-le-SHORT.true (search rules), chains_short a.register.now _ c.if-register-le-SHORT.true (search rules))
+
+pub run_with_rows-requires-2 : goal.run_with_rows-requires-2
+run_with_rows-requires-2 c =
+    let a = c.args in
+    (index_long a.register.now _ (search rules), chains_long a.register.now _ (search rules))

@@ -1,0 +1,11 @@
+use Rattle.promises.proofs.CountedLaws.{counted_refused}
+use Rattle.reading.proofs.Verdicts.{accepted_rows, judged_refused}
+use Rattle.screen.proofs.Showing.{screen_refused}
+use Rattle.screen.proofs.rows.screen_with_rows.Goals as goal
+
+pub screen_accepted-requires : goal.screen_accepted-requires
+screen_accepted-requires c = accepted_rows _ _ _ _ c.judge.ensures c.in-Accepted.is
+
+pub returns-in-Refused : goal.returns-in-Refused
+returns-in-Refused c =
+    let it = counted_refused _ _ _ (screen_refused _ _ _ _ (judged_refused _ _ _ _ c.judge.ensures c.in-Refused.is)) (c.refuse_two.ensures.answer, c.refuse_two.ensures.output) in record { answer = it.0; output = it.1 }
