@@ -1,5 +1,7 @@
 // The two buffers of states: their numbers in order, and what is at hand of those that are accepted. The functions are for the crates above
 // and no public calls.
+#![tactic(auto)]
+
 mod roots; // the records of the state register as roots of trees
 mod reached; // the trees under the roots
 
