@@ -1,4 +1,0 @@
-pub mod Lent
-pub mod LentMade
-pub mod LentTwo
-pub mod LentThree
