@@ -1,4 +1,3 @@
 pub mod Maps
 pub mod Kept
 pub mod Outcomes
-pub mod Restoring
