@@ -11,7 +11,7 @@ fn main() {
     // A relative folder is taken from the manifest's folder; an absolute one stays as it is.
     let folder = match env::var_os("MIJDEGEN_LIB_DIR") {
         Some(given) => manifest.join(given),
-        None => manifest.join("..").join("target").join("staticlib"),
+        None => manifest.join("../crates/mijdegen/out"),
     };
     let archive = folder.join("libmijdegen.a");
     println!("cargo:rerun-if-changed={}", archive.display());
@@ -19,7 +19,7 @@ fn main() {
     if !archive.is_file() {
         panic!(
             "\n\nThe static library is missing: there is no file {}\n\
-             Build it with the command\n\n    rt staticlib mijdegen\n\n\
+             Build it with the command\n\n    (cd crates/mijdegen && rt lib)\n\n\
              or set MIJDEGEN_LIB_DIR to the folder that holds libmijdegen.a.\n\n",
             archive.display()
         );

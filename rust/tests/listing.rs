@@ -20,10 +20,10 @@ const LONGEST_INPUT: usize = 65_536;
 /// Starts the program and hands its standard input to the function. Expects that the program ends
 /// with success and writes nothing to standard error. Gives what it writes to standard output.
 fn run(feed: impl FnOnce(ChildStdin) + Send) -> Vec<u8> {
-    let program = Path::new(env!("CARGO_MANIFEST_DIR")).join("../target/bin/listing");
+    let program = Path::new(env!("CARGO_MANIFEST_DIR")).join("../crates/listing/out/listing");
     assert!(
         program.is_file(),
-        "there is no program {}: build it with the command `rt check listing`",
+        "there is no program {}: build it with the command `(cd crates/listing && rt run < stdin)`",
         program.display()
     );
     let mut child = Command::new(program)
