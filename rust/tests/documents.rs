@@ -131,8 +131,8 @@ fn collect(root: &Path, path: &str, files: &mut BTreeMap<String, String>) {
     for entry in fs::read_dir(&place).unwrap_or_else(|error| panic!("{path}: {error}")) {
         let name = entry.expect("an entry of the folder").file_name();
         let name = name.to_str().expect("a name in UTF-8");
-        // Cargo builds there.
-        if name != "target" {
+        // Cargo builds in one of these and the checker in the other.
+        if name != "target" && name != "out" {
             collect(root, &format!("{path}/{name}"), files);
         }
     }
@@ -547,12 +547,12 @@ fn statements(text: &str) -> Vec<&str> {
         .collect()
 }
 
-/// Writes a name in lower case: `OneRegister` as `one-register`.
+/// Writes a name in lower case: `OneRegister` as `one_register`.
 fn in_lower_case(name: &str) -> String {
     let mut lower = String::new();
     for letter in name.chars() {
         if letter.is_uppercase() && !lower.is_empty() {
-            lower.push('-');
+            lower.push('_');
         }
         lower.extend(letter.to_lowercase());
     }
@@ -794,5 +794,5 @@ fn edits_without_a_citation_are_found() {
 fn statements_have_names_in_lower_case() {
     let text = "abbrev pub OneRegister : Type 0\nabbrev pub Among : ℕ → Type 0\n";
     assert_eq!(statements(text), ["OneRegister"]);
-    assert_eq!(in_lower_case("OneRegister"), "one-register");
+    assert_eq!(in_lower_case("OneRegister"), "one_register");
 }

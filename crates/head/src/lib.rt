@@ -9,8 +9,8 @@ use bytestring::same_bytes;
 use value::{DIGEST, Digest};
 
 // The record count, the root's layer and the root's digest.
-#[repr(C)]
 #[derive(Clone, Copy)]
+#[repr(C)]
 pub struct Head {
     pub count: u32,
     pub layer: u32,

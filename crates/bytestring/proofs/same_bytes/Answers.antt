@@ -1,4 +1,3 @@
-use Prim.Native.Nat.{◌-◌}
 use mathlib.Core.Path.{refl}
 use borrow.Author.Rules.{rules}
 use Rattle.bytestring.proofs.Equal.{lengths_differ, bytes_compared, bytes_end}

@@ -1,4 +1,4 @@
-use Rattle.std.proofs.Common.{◌≡◌, ◌-◌, refl, arith, rules}
+use Rattle.std.proofs.Common.{◌≡◌, refl, arith, rules}
 use Rattle.fips180.specs.Hash.{after_blocks}
 use Rattle.rounds.proofs.RoundLaws.{block_more}
 use Rattle.rounds.proofs.compress_four.Goals as goal

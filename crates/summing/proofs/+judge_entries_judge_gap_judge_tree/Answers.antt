@@ -1,7 +1,7 @@
 use mathlib.Core.Path.{ap}
 use mathlib.Core.Bool.{not}
 use mathlib.Core.Bool.{false≢true}
-use mathlib.Core.Logic.{inl, inr, ⊎_elim}
+use mathlib.Core.Logic.{inl, inr}
 use Rattle.summing.specs.Inner.{raws_in}
 use Rattle.summing.proofs.Gaps.{gap_empty, gap_leads, gap_too_low, gap_no_tree, gap_filed, gap_counted, gap_no_rise, gap_too_many, gap_whole, gap_underway}
 use Rattle.summing.proofs.Entries.{entry_located, underway_last, entries_begin, entries_end, entry_found, entries_too_many, key_asked, key_fails, entry_gap_fails, entry_asks, entries_go_on}

@@ -1,4 +1,4 @@
-use Rattle.std.proofs.Common.{◌-◌, refl, arith}
+use Rattle.std.proofs.Common.{refl, arith}
 use Rattle.fips180.specs.Hash.{rounds}
 use Rattle.rounds.proofs.RoundLaws.{eight_rounds, rounds_end}
 use Rattle.rounds.proofs.block.rounds_of.Goals as goal

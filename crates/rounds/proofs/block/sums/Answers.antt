@@ -1,4 +1,4 @@
-use Rattle.std.proofs.Common.{◌-◌, refl, ◌∙◌, arith, length-set}
+use Rattle.std.proofs.Common.{refl, ◌∙◌, arith, length-set}
 use Rattle.fips180.specs.Hash.{K}
 use Rattle.rounds.proofs.RoundLaws.{summed_none, summed_more, summed_all}
 use Rattle.rounds.proofs.block.sums.Goals as goal

@@ -1,4 +1,4 @@
-use Rattle.std.proofs.Common.{◌+◌, ◌-◌, ◌*◌, set, arith, lt-length-set, rules}
+use Rattle.std.proofs.Common.{◌+◌, ◌*◌, set, arith, lt-length-set, rules}
 use Rattle.rounds.proofs.ScheduleLaws.{row_loaded}
 use Rattle.rounds.proofs.Making.{made_none, made_at}
 use Rattle.rounds.proofs.schedule.load_four.Goals as goal

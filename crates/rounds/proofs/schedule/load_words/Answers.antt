@@ -1,4 +1,4 @@
-use Rattle.std.proofs.Common.{◌-◌, ◌∙◌, arith, length-set, rules}
+use Rattle.std.proofs.Common.{◌∙◌, arith, length-set, rules}
 use Rattle.rounds.proofs.ScheduleLaws.{begun_loaded}
 use Rattle.rounds.proofs.Making.{made_none, made_at}
 use Rattle.rounds.proofs.schedule.load_words.Goals as goal

@@ -1,4 +1,4 @@
-use Rattle.std.proofs.Common.{◌-◌, refl, ◌∙◌, arith, length-set}
+use Rattle.std.proofs.Common.{refl, ◌∙◌, arith, length-set}
 use Rattle.rounds.proofs.Making.{made_none, made_more}
 use Rattle.rounds.proofs.ScheduleLaws.{lane}
 use Rattle.rounds.proofs.schedule.schedule_at.Goals as goal

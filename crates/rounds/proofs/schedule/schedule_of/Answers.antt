@@ -1,4 +1,4 @@
-use Rattle.std.proofs.Common.{◌-◌, arith}
+use Rattle.std.proofs.Common.{arith}
 use Rattle.rounds.proofs.ScheduleLaws.{eight_words, whole}
 use Rattle.rounds.proofs.Making.{made_at}
 use Rattle.rounds.proofs.schedule.schedule_of.Goals as goal

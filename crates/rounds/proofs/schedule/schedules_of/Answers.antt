@@ -1,4 +1,4 @@
-use Rattle.std.proofs.Common.{◌-◌, ◌∙◌, arith, length-set, rules}
+use Rattle.std.proofs.Common.{◌∙◌, arith, length-set, rules}
 use Rattle.rounds.proofs.ScheduleLaws.{beside_next}
 use Rattle.rounds.proofs.Making.{made_at}
 use Rattle.rounds.proofs.schedule.schedules_of.Goals as goal

@@ -11,7 +11,6 @@ use Rattle.writer.proofs.Falling.{one_below, two_below, next_below}
 use Rattle.writer.proofs.Gaps.{no_room, own_fits, gap_layer, gap_nothing, gap_below}
 use Rattle.writer.proofs.Turns.{ready_within, still_holding, starts, out_length, tail_within, tail_grown, limit_within, turn_length, laid_all, turn_done, turn_refused}
 use Rattle.writer.proofs.Composing.{own_lacks, begun, left_lacks, tail_fits, first_length, start_room, foot_within, places, Entered, entries_lack, at_within, whole_fits, end_room, end_length, finishes}
-use Prim.Native.Nat.{ℕ}
 use Rattle.writer.proofs.pages.+write_below_write_entries_write_page.Goals as goal
 
 pub write_entries-loop-i-init : goal.write_entries-loop-i-init

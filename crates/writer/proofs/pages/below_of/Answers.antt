@@ -1,6 +1,4 @@
 use borrow.Author.Tests.{not-false}
-use mathlib.Core.Path.{ap}
-use mathlib.Core.Bool.{not}
 use mathlib.Core.Path.{sym}
 use lib.Seq.{length-take-le}
 use Rattle.writer.proofs.Gaps.{below_refused, below_linked}
