@@ -1,12 +1,14 @@
 -- Bytes at the front of an output, and more behind them.
-use Prim.Native.Nat.{ℕ, ◌+◌, ◌-◌, ◌≤◌}
-use mathlib.Core.Path.{◌≡◌, refl, sym, ap}
-use mathlib.Core.List.{List, [], ◌++◌}
+use Prim.Native.Nat.{ℕ, ◌+◌, ◌-◌, ◌≤◌, ◌<◌}
+use mathlib.Core.Path.{◌≡◌, refl, sym, ap, ◌∙◌}
+use mathlib.Core.List.{List, [], ◌++◌, append-nil}
 use native.Mathlib.Omega.{arith}
 use lib.ListN.{length, take, drop, length-append, length-drop}
 use lib.Seq.{length-take-le}
+use Rattle.bytestring.specs.Bytes.{front}
 use Rattle.bytestring.proofs.Lending.{lent, back, onto}
 use Rattle.gathering.specs.Gathered.{WrittenFront}
+use Rattle.gathering.specs.declared.GatheredLength.{GatheredLength}
 use Rattle.gathering.specs.declared.GatheredLength.TheVariants.{Length, NoRoom}
 
 pub nothing_written : (o : List ℕ) → WrittenFront [] o (Length 0) o

@@ -2,7 +2,7 @@
 use Rattle.std.specs.Prelude.{ℕ, cond, List, [], ◌∷◌, ◌++◌, length, eqb}
 use Rattle.std.proofs.Math.Option.{Option, none, some}
 use Rattle.value.specs.Value.{digest_length, dag_cbor, is_codec, value_codec, value_digest}
-use Rattle.page.specs.Reading.{read, ends_early, departs, Reader, and_then, pure, exactly, any_bytes, times, concat}
+use Rattle.page.specs.Reading.{read, ends_early, departs, Reader, and_then, ◌>>=◌, ◌>>◌, pure, exactly, any_bytes, times, concat}
 use Rattle.page.specs.Number.{plain_number, byte_string, array, number_bytes, number}
 
 -- Each link has six bytes, the codec of what it names, two bytes more, and 32 digest bytes.

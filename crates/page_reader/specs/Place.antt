@@ -3,7 +3,7 @@ use Rattle.std.specs.Prelude.{ℕ, zero, suc, ◌+◌, ◌≤◌, ◌<◌, ◌�
 use Rattle.std.proofs.Math.Option.{Option, none, some}
 use Rattle.limits.specs.Limits.{numbers}
 use Rattle.value.specs.Value.{digest_length, value_in}
-use Rattle.page.specs.Reading.{Read, read, ends_early, departs, Reader, ◌>>◌, pure, exactly, any_bytes, times}
+use Rattle.page.specs.Reading.{Read, read, ends_early, departs, Reader, ◌>>=◌, ◌>>◌, pure, exactly, any_bytes, times}
 use Rattle.page.specs.Number.{number, byte_string, array}
 use Rattle.page.specs.Page.{after_codec, link_head, null, gap, codec, value, RawEntry, entry, page}
 use Rattle.page_reader.specs.declared.Stop.{Stop}

@@ -21,7 +21,7 @@ use Rattle.page.proofs.Pages.{page_reads}
 use Rattle.tree.specs.Tree.{page, Gap, empty, under, Entries, items}
 use Rattle.tree.specs.Record.{Spelt, keyed, records}
 use Rattle.tree.specs.Table.{SpeltTree, link_of, raw_page, bytes_of_page}
-use Rattle.tree.specs.Judge.{due, Test}
+use Rattle.tree.specs.Judge.{due, accepted, Test}
 use Rattle.tree.proofs.Laws.{accepted_table, due_none}
 use Rattle.promises.specs.Map.{find}
 use Rattle.promises.proofs.MapLaws.{find_nil}

@@ -18,7 +18,7 @@ use Rattle.page.specs.Page.{page_bytes}
 use Rattle.tree.specs.Tree.{page, Gap, under, Entries, end, entry, items}
 use Rattle.tree.specs.Record.{Record, Spelt, record_of, keyed, records}
 use Rattle.tree.specs.Table.{SpeltTree, link_of, raw_entries, raw_page, bytes_of_page}
-use Rattle.tree.specs.Judge.{due, prefixes_right, prefixes_right_under, prefixes_right_from}
+use Rattle.tree.specs.Judge.{due, prefixes_right, prefixes_right_under, prefixes_right_from, accepted}
 use Rattle.tree.specs.OnePage.{entries_start, prefixes_of, records_in}
 use Rattle.tree.proofs.Laws.{none_due, all_lawful_lem, LawfulKey, AllUnder, AllFrom, Good, Accepted, prefixes_spelt}
 use Rattle.promises.specs.Map.{find}

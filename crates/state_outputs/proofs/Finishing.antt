@@ -2,12 +2,12 @@
 use Prim.Native.Nat.{ℕ, ◌+◌, ◌-◌, ◌≤◌, ◌<◌}
 use mathlib.Core.Path.{◌≡◌, refl, sym, ap, subst, ◌∙◌}
 use mathlib.Core.Bool.{Bool, true, false, ◌&&◌}
-use mathlib.Core.List.{List, ◌++◌}
+use mathlib.Core.List.{List, ◌++◌, append-nil}
 use native.Mathlib.Omega.{arith}
 use lib.ListN.{length, take, drop, length-append}
 use lib.Dec.{leb}
 use borrow.Author.Tests.{le-leb, lt-leb}
-use Rattle.bytestring.specs.Bytes.{zeros}
+use Rattle.bytestring.specs.Bytes.{zeros, front}
 use lib.Seq.{take_at}
 use Rattle.limits.specs.Limits.{longest}
 use Rattle.answer.specs.declared.Refusal.{Refusal}
@@ -17,6 +17,7 @@ use Rattle.answer.specs.declared.Answer.TheVariants.{Done, Refused}
 use Rattle.answer.specs.declared.AnswerOfTwo.{AnswerOfTwo}
 use Rattle.answer.specs.declared.AnswerOfTwo.TheVariants.{Both}
 use Rattle.promises.specs.Outcome.{Outcome, stopped, wrote, answer_of, output_of}
+use Rattle.states.specs.Pages.{all_apart}
 use Rattle.states.specs.States.{Saved, unsaved, saved, saved_answer, states_output, pages_output}
 use Rattle.keeping.specs.Kept.{sequence_of}
 use Rattle.keeping.specs.declared.KeptLength.{KeptLength}

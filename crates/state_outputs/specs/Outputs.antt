@@ -1,5 +1,5 @@
 -- What the contracts inside this crate cite, and no public contract does.
-use Rattle.std.specs.Prelude.{ℕ, ◌≡◌, true, cond, List, length}
+use Rattle.std.specs.Prelude.{ℕ, ◌≤◌, ◌≡◌, true, cond, List, length}
 use Rattle.answer.specs.declared.Refusal.TheVariants.{NoRoom, WrongStates}
 use Rattle.answer.specs.declared.Answer.{Answer}
 use Rattle.answer.specs.declared.AnswerOfTwo.{AnswerOfTwo}

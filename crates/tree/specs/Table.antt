@@ -2,7 +2,7 @@
 use Rattle.std.specs.Prelude.{ℕ, zero, suc, List, [], ◌∷◌, ◌++◌, map}
 use Rattle.std.proofs.Math.Option.{Option, none, some}
 use Rattle.fips180.specs.Hash.{sha256}
-use Rattle.page.specs.Reading.{read, ends_early, departs, Reader, and_then, pure}
+use Rattle.page.specs.Reading.{read, ends_early, departs, Reader, and_then, ◌>>=◌, pure}
 use Rattle.page.specs.Page.{RawEntry, RawPage, page_bytes, page as page_at}
 use Rattle.tree.specs.Tree.{Page, page, Gap, empty, under, Entries, end, entry, tree_of}
 use Rattle.tree.specs.Record.{Record, Spelt, spelt, placed}

@@ -16,7 +16,7 @@ use Rattle.page_reader.specs.declared.EntryAt.{EntryAt}
 use Rattle.page_reader.specs.declared.EntryRead.{EntryRead}
 use Rattle.page_reader.specs.declared.EntryRead.TheVariants.{Entry, EntryStop}
 use Rattle.page_reader.proofs.Located.{entry_place}
-use Rattle.summaries.specs.Summary.{Summary, after_gap, after_entries, then_tally, summed, summed_tally, summary_of_page}
+use Rattle.summaries.specs.Summary.{Summary, after_gap, after_entries, then_tally, summed, summed_tally, summary_of_page, summary}
 use Rattle.tree_keys.specs.Inner.{OwnFirst}
 use Rattle.tree_keys.specs.declared.KeyAt.{KeyAt}
 
