@@ -59,8 +59,8 @@ pub fn put_record(
     out: &mut [u8],
 ) -> Answer
     requires { AcceptedIndex register.now index.old count × RoomForMore register.now (length index.old) × (lawful key.now ≡ true) × (is_value value ≡ true) }
-    ensures answer { result ≡ answer_of (written (put (record { key = key.entry.now; val = value }) (accepted_records (judge register.now))) (length out.old)) }
-    ensures output { out.new ≡ output_of (written (put (record { key = key.entry.now; val = value }) (accepted_records (judge register.now))) (length out.old)) (length out.old) }
+    ensures answer { result ≡ answer_of (written (put (record { key = key.now; val = value }) (accepted_records (judge register.now))) (length out.old)) }
+    ensures output { out.new ≡ output_of (written (put (record { key = key.now; val = value }) (accepted_records (judge register.now))) (length out.old)) (length out.old) }
 {
     let mut page = [0u8; 512];
     let none = [0u64; 1];
