@@ -1,4 +1,5 @@
 -- An answer as one number comes apart into what the answer says.
+use Rattle.std.specs.Prelude.{Result, Ok, Err}
 use Prim.Native.Nat.{ℕ, ◌+◌, ◌*◌, ◌/◌, ◌%◌, ◌^◌, ◌<◌}
 use mathlib.Core.Path.{◌≡◌}
 use mathlib.Core.Bool.{false}
@@ -7,10 +8,6 @@ use lib.Dec.{eqb}
 use borrow.Author.Tests.{ne_eqb}
 use Rattle.answer.specs.declared.Refusal.{Refusal}
 use Rattle.answer.specs.declared.Refusal.TheVariants.{TooLong, EndsEarly, Departs, BytesFollow, TooManyRecords, WrongPrefix, UnlawfulKey, KeysNotRising, WrongTree, WrongDigest, WrongValue, KeyAbsent, NoRoom, FirstAfterLast, NoSuchScreen, PageNotDue, UntrueHead, WrongStates}
-use Rattle.answer.specs.declared.Answer.{Answer}
-use Rattle.answer.specs.declared.Answer.TheVariants.{Done, Refused}
-use Rattle.answer.specs.declared.AnswerOfTwo.{AnswerOfTwo}
-use Rattle.answer.specs.declared.AnswerOfTwo.TheVariants.{Both, Refused as BothRefused}
 use Rattle.answer.specs.Answer.{number_of, said, said_of_two, encoded, encoded_of_two, taken_apart, taken_apart_in_two, ComesApart}
 use Rattle.answer.specs.Inner.{FirstFits}
 
@@ -49,18 +46,18 @@ value_remainder v = omega arith
 value_quotient : (v : ℕ) → 256 * v / 256 ≡ v
 value_quotient v = omega arith
 
-one_comes_apart : (answer : Answer) → taken_apart (encoded answer) ≡ said answer
+one_comes_apart : (answer : Result ℕ Refusal) → taken_apart (encoded answer) ≡ said answer
 unfolding taken_apart
-one_comes_apart (Done v) = rw (value_remainder v, value_quotient v)
-one_comes_apart (Refused r) = rw (remainder r, not_done r)
+one_comes_apart (Ok v) = rw (value_remainder v, value_quotient v)
+one_comes_apart (Err r) = rw (remainder r, not_done r)
 
 pub comes_apart : ComesApart
 comes_apart = (one_comes_apart, λ r. omega (arith, number_within r))
 
-pub two_come_apart : (d : AnswerOfTwo) → FirstFits d → taken_apart_in_two (encoded_of_two d) ≡ said_of_two d
+pub two_come_apart : (d : Result (ℕ × ℕ) Refusal) → FirstFits d → taken_apart_in_two (encoded_of_two d) ≡ said_of_two d
 unfolding taken_apart_in_two
-two_come_apart (Both n count) h =
+two_come_apart (Ok (n, count)) h =
     let first : (n + 2 ^ 24 * count) % 2 ^ 24 ≡ n = omega arith in
     let second : (n + 2 ^ 24 * count) / 2 ^ 24 ≡ count = omega arith in
     rw (value_remainder (n + 2 ^ 24 * count), value_quotient (n + 2 ^ 24 * count), first, second)
-two_come_apart (BothRefused r) h = rw (remainder r, not_done r)
+two_come_apart (Err r) h = rw (remainder r, not_done r)

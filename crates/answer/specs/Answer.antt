@@ -1,11 +1,7 @@
 -- The eighteen numbers, what an answer says, and an answer as one number.
-use Rattle.std.specs.Prelude.{ℕ, ◌+◌, ◌*◌, ◌/◌, ◌%◌, ◌^◌, ◌≡◌, cond, List, [], ◌∷◌, eqb}
+use Rattle.std.specs.Prelude.{ℕ, ◌+◌, ◌*◌, ◌/◌, ◌%◌, ◌^◌, ◌≡◌, cond, List, [], ◌∷◌, eqb, Result, Ok, Err}
 use Rattle.answer.specs.declared.Refusal.{Refusal}
 use Rattle.answer.specs.declared.Refusal.TheVariants.{TooLong, EndsEarly, Departs, BytesFollow, TooManyRecords, WrongPrefix, UnlawfulKey, KeysNotRising, WrongTree, WrongDigest, WrongValue, KeyAbsent, NoRoom, FirstAfterLast, NoSuchScreen, PageNotDue, UntrueHead, WrongStates}
-use Rattle.answer.specs.declared.Answer.{Answer}
-use Rattle.answer.specs.declared.Answer.TheVariants.{Done, Refused}
-use Rattle.answer.specs.declared.AnswerOfTwo.{AnswerOfTwo}
-use Rattle.answer.specs.declared.AnswerOfTwo.TheVariants.{Both, Refused as BothRefused}
 
 -- 1: a lent register or path or a digest's input is longer than 4,194,304 bytes.
 -- 2: each byte fits the page form, but the input ends while a byte or linked page is due.
@@ -51,24 +47,24 @@ pub data Said : Type 0 where
   refused_with : ℕ → Said
   done_with : List ℕ → Said
 
-abbrev pub said : Answer → Said
-said (Done v) = done_with (v ∷ [])
-said (Refused r) = refused_with (number_of r)
+abbrev pub said : Result ℕ Refusal → Said
+said (Ok v) = done_with (v ∷ [])
+said (Err r) = refused_with (number_of r)
 
 -- Some calls have two values: a table's length and a count beside it, or a digest's place and a codec beside it.
-abbrev pub said_of_two : AnswerOfTwo → Said
-said_of_two (Both n count) = done_with (n ∷ count ∷ [])
-said_of_two (BothRefused r) = refused_with (number_of r)
+abbrev pub said_of_two : Result (ℕ × ℕ) Refusal → Said
+said_of_two (Ok (n, count)) = done_with (n ∷ count ∷ [])
+said_of_two (Err r) = refused_with (number_of r)
 
 -- An answer as one number: the refusal's number alone, or 256 times the value.
-abbrev pub encoded : Answer → ℕ
-encoded (Done v) = 256 * v
-encoded (Refused r) = number_of r
+abbrev pub encoded : Result ℕ Refusal → ℕ
+encoded (Ok v) = 256 * v
+encoded (Err r) = number_of r
 
 -- Of two values the second is multiplied by 2^24; the first, a table's length or a place, is below that.
-abbrev pub encoded_of_two : AnswerOfTwo → ℕ
-encoded_of_two (Both n count) = 256 * (n + 2 ^ 24 * count)
-encoded_of_two (BothRefused r) = number_of r
+abbrev pub encoded_of_two : Result (ℕ × ℕ) Refusal → ℕ
+encoded_of_two (Ok (n, count)) = 256 * (n + 2 ^ 24 * count)
+encoded_of_two (Err r) = number_of r
 
 -- The one number taken apart: its remainder by 256 is a refusal's number, or 0; then the quotient is the value.
 unfoldable pub taken_apart : ℕ → Said
@@ -81,5 +77,5 @@ taken_apart_in_two a = cond (eqb (a % 256) 0) (done_with (a / 256 % 2 ^ 24 ∷ a
 -- An answer as one number comes apart into what the answer says; that of a refusal has the value 0.
 abbrev pub ComesApart : Type 0
 ComesApart =
-    ((answer : Answer) → taken_apart (encoded answer) ≡ said answer)
-    × ((r : Refusal) → encoded (Refused r) / 256 ≡ 0)
+    ((answer : Result ℕ Refusal) → taken_apart (encoded answer) ≡ said answer)
+    × ((r : Refusal) → encoded (Err r) / 256 ≡ 0)

@@ -28,20 +28,6 @@ pub enum Refusal {
     WrongStates,
 }
 
-// What a call answers: a value, or the reason of a refusal.
-#[derive(Clone, Copy)]
-pub enum Answer {
-    Done(u32),
-    Refused(Refusal),
-}
-
-// What a call with two values answers: a table's length and a count beside it, or a digest's place and a codec; or the reason of a refusal.
-#[derive(Clone, Copy)]
-pub enum AnswerOfTwo {
-    Both(u32, u32),
-    Refused(Refusal),
-}
-
 // The number of a refusal.
 pub fn number_of(refusal: Refusal) -> u64
     ensures { result ≡ number_of refusal }
@@ -69,32 +55,32 @@ pub fn number_of(refusal: Refusal) -> u64
 }
 
 // An answer as the one number that the C interface returns.
-pub fn encode(answer: Answer) -> u64
+pub fn encode(answer: Result<u32, Refusal>) -> u64
     ensures { result ≡ encoded answer }
 {
     match answer {
-        Answer::Done(value) => 256 * (value as u64),
-        Answer::Refused(refusal) => number_of(refusal),
+        Ok(value) => 256 * (value as u64),
+        Err(refusal) => number_of(refusal),
     }
 }
 
 // The same of two values: the second stands above the 24 bits of the first.
-pub fn encode_two(answer: AnswerOfTwo) -> u64
+pub fn encode_two(answer: Result<(u32, u32), Refusal>) -> u64
     requires { FirstFits answer }
     ensures { result ≡ encoded_of_two answer }
 {
     match answer {
-        AnswerOfTwo::Both(first, second) => 256 * (first as u64 + 0x100_0000 * (second as u64)),
-        AnswerOfTwo::Refused(refusal) => number_of(refusal),
+        Ok((first, second)) => 256 * (first as u64 + 0x100_0000 * (second as u64)),
+        Err(refusal) => number_of(refusal),
     }
 }
 
 // An answer with a second value beside its own.
-pub fn with_second(answer: Answer, second: u32) -> AnswerOfTwo
+pub fn with_second(answer: Result<u32, Refusal>, second: u32) -> Result<(u32, u32), Refusal>
     ensures { result ≡ with_second answer second }
 {
     match answer {
-        Answer::Done(first) => AnswerOfTwo::Both(first, second),
-        Answer::Refused(refusal) => AnswerOfTwo::Refused(refusal),
+        Ok(first) => Ok((first, second)),
+        Err(refusal) => Err(refusal),
     }
 }

@@ -1,4 +1,3 @@
 pub mod Tools
 pub mod Equal
 pub mod Lending
-pub mod Clearing

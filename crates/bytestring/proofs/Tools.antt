@@ -1,12 +1,13 @@
 -- Tools on tests, lists and bytes, for the crates above.
 use Prim.Native.Nat.{ℕ, zero, suc, ◌+◌, ◌-◌, ◌<◌}
-use mathlib.Core.Path.{◌≡◌, refl, sym, ap, ◌∙◌}
+use mathlib.Core.Path.{◌≡◌, refl}
 use mathlib.Core.Bool.{Bool, true, false, cond, ◌&&◌, false≢true}
 use mathlib.Core.List.{List, [], ◌∷◌, ◌++◌}
 use native.Mathlib.Omega.{arith}
-use native.Mathlib.Nat.{sub-zero, zero-sub, suc-sub-suc}
+use native.Mathlib.Nat.{sub-zero, suc-sub-suc}
 use lib.ListN.{length, get_or, take, drop, replicate, take-append-drop}
 use lib.Seq.{take-nil}
+use Rattle.std.proofs.lemmas.List.{drop-replicate}
 use Rattle.bytestring.specs.Bytes.{Bytes, zeros}
 
 -- ---- tests (`cases`, which splits on a test, is in borrow.Table.Steps)
@@ -77,9 +78,7 @@ part_taken (suc n) (suc i) [] = take-nil (suc n - suc i)
 part_taken (suc n) (suc i) (w ∷ l) = rw suc-sub-suc (part_taken n i l)
 
 pub drop_replicate : {A : Type 0} (a : A) (k n : ℕ) → drop k (replicate n a) ≡ replicate (n - k) a
-drop_replicate a zero n = ap (λ (x : ℕ). replicate x a) (sym (sub-zero n))
-drop_replicate a (suc k) zero = ap (λ (x : ℕ). replicate x a) (sym (zero-sub (suc k)))
-drop_replicate a (suc k) (suc n) = drop_replicate a k n ∙ ap (λ (x : ℕ). replicate x a) (sym (suc-sub-suc n k))
+drop_replicate a k n = drop-replicate k n a
 
 pub drop_zeros : (k n : ℕ) → drop k (zeros n) ≡ zeros (n - k)
 drop_zeros k n = drop_replicate 0 k n

@@ -1,4 +1,5 @@
 -- The head of a register that is accepted, and the verdict on a register that is lent with a head.
+use Rattle.std.specs.Prelude.{Result, Ok, Err}
 use Prim.Native.Nat.{ℕ, ◌^◌, ◌<◌}
 use mathlib.Core.Path.{◌≡◌, sym, ap, subst, ◌∙◌}
 use mathlib.Core.Bool.{true, false}
@@ -7,7 +8,6 @@ use lib.ListN.{length}
 use Rattle.fips180.specs.Hash.{sha256}
 use Rattle.answer.specs.declared.Refusal.{Refusal}
 use Rattle.answer.specs.declared.Refusal.TheVariants.{UntrueHead}
-use Rattle.answer.specs.declared.Answer.TheVariants.{Done, Refused}
 use Rattle.tree.specs.Tree.{top_layer}
 use Rattle.tree.specs.Record.{Record, records, placed}
 use Rattle.tree.specs.Table.{SpeltTree, bytes_of_page}
@@ -20,8 +20,6 @@ use Rattle.head.specs.declared.Head.{Head}
 use Rattle.head.specs.Head.{head_of, same_head, zero_head}
 use Rattle.head.proofs.Laws.{same_fields, same_head_lem, root_digest_lem}
 use Rattle.promises.specs.Outcome.{check_verdict, check_outcome}
-use Rattle.judge.specs.declared.Register.{Register}
-use Rattle.judge.specs.declared.Register.TheVariants.{Accepted, Refused as RefusedRegister}
 use Rattle.reading.proofs.Verdicts.{Accepting, short, row_first, records_first}
 use Rattle.checking.specs.Lent.{lent_verdict, TrueOf, LentSays}
 
@@ -41,11 +39,11 @@ module _ {s index : List ℕ} {count : ℕ} (a : Accepting s index count) (top :
 
 -- ---- check
 module _ (s : List ℕ) where
-  pub checked : (h : Head) (t : SpeltTree) → judge s ≡ accepted t → h ≡ head_of (records t) → record { answer = Done 0; head = h } ≡ check_outcome s
+  pub checked : (h : Head) (t : SpeltTree) → judge s ≡ accepted t → h ≡ head_of (records t) → record { answer = Ok 0; head = h } ≡ check_outcome s
   unfolding check_outcome check_verdict
   checked h t j e = rw (j, e)
 
-  pub check_refused : (r : Refusal) → judge s ≡ refused r → record { answer = Refused r; head = zero_head } ≡ check_outcome s
+  pub check_refused : (r : Refusal) → judge s ≡ refused r → record { answer = Err r; head = zero_head } ≡ check_outcome s
   unfolding check_outcome check_verdict
   check_refused r j = rw j
 
@@ -64,9 +62,9 @@ module _ (s : List ℕ) (h : Head) where
     is_true y u k = same_head_lem h own y ∙ e ∙ ap (λ (v : SpeltTree). head_of (records v)) (one_tree s j k)
 
 -- ---- what the answered judgement says
-module _ (s : List ℕ) (h : Head) (index row : List ℕ) (x : Register) (says : LentSays s h x index row) where
-  pub lent_rows : {count n : ℕ} → x ≡ Accepted count n → AcceptedIndex s index count × ChainRow s row n × TrueOf s h
-  lent_rows e = subst (λ (y : Register). LentSays s h y index row) e says
+module _ (s : List ℕ) (h : Head) (index row : List ℕ) (x : Result (ℕ × ℕ) Refusal) (says : LentSays s h x index row) where
+  pub lent_rows : {count n : ℕ} → x ≡ Ok (count, n) → AcceptedIndex s index count × ChainRow s row n × TrueOf s h
+  lent_rows e = subst (λ (y : Result (ℕ × ℕ) Refusal). LentSays s h y index row) e says
 
-  pub lent_judged : {r : Refusal} → x ≡ RefusedRegister r → lent_verdict (judge s) h ≡ refused r
-  lent_judged e = subst (λ (y : Register). LentSays s h y index row) e says
+  pub lent_judged : {r : Refusal} → x ≡ Err r → lent_verdict (judge s) h ≡ refused r
+  lent_judged e = subst (λ (y : Result (ℕ × ℕ) Refusal). LentSays s h y index row) e says

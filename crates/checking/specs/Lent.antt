@@ -1,12 +1,11 @@
 -- The verdict on a register that is lent with its head. Contracts inside the library cite it, and no public contract does.
-use Rattle.std.specs.Prelude.{ℕ, ◌≡◌, cond, List}
+use Rattle.answer.specs.declared.Refusal.{Refusal}
+use Rattle.std.specs.Prelude.{ℕ, ◌≡◌, cond, List, Result, Ok, Err}
 use Rattle.answer.specs.declared.Refusal.TheVariants.{UntrueHead}
 use Rattle.tree.specs.Record.{records}
 use Rattle.tree.specs.Table.{SpeltTree}
 use Rattle.tree.specs.Judge.{Verdict, refused, accepted, judge}
 use Rattle.index.specs.Accepted.{AcceptedIndex, ChainRow}
-use Rattle.judge.specs.declared.Register.{Register}
-use Rattle.judge.specs.declared.Register.TheVariants.{Accepted, Refused}
 use Rattle.head.specs.declared.Head.{Head}
 use Rattle.head.specs.Head.{head_of, same_head}
 
@@ -19,6 +18,6 @@ lent_verdict (accepted t) h = cond (same_head h (head_of (records t))) (accepted
 abbrev pub TrueOf : List ℕ → Head → Type 0
 TrueOf s h = (t : SpeltTree) → judge s ≡ accepted t → h ≡ head_of (records t)
 
-abbrev pub LentSays : List ℕ → Head → Register → List ℕ → List ℕ → Type 0
-LentSays s h (Accepted count n) index row = AcceptedIndex s index count × ChainRow s row n × TrueOf s h
-LentSays s h (Refused r) index row = lent_verdict (judge s) h ≡ refused r
+abbrev pub LentSays : List ℕ → Head → Result (ℕ × ℕ) Refusal → List ℕ → List ℕ → Type 0
+LentSays s h (Ok (count, n)) index row = AcceptedIndex s index count × ChainRow s row n × TrueOf s h
+LentSays s h (Err r) index row = lent_verdict (judge s) h ≡ refused r

@@ -12,10 +12,10 @@ ghost use Rattle.head.specs.Head.{head_of};
 ghost use Rattle.promises.specs.Outcome.{check_outcome};
 ghost use Rattle.checking.specs.Lent.{LentSays};
 
-use answer::{Answer, Refusal};
+use answer::Refusal;
 use digests::root_digest;
 use head::{Head, Headed, same_head, zero_head};
-use judge::{Register, judge};
+use judge::judge;
 use layout::runs::top_layer;
 
 // The head of a register that is accepted, by its rows.
@@ -38,30 +38,35 @@ pub fn check_with_rows(register: &[u8], index: &mut [u64], chains: &mut [u64]) -
     ensures { result ≡ check_outcome register.now }
 {
     match judge(register, index, chains) {
-        Register::Accepted(count, n) => Headed {
-            answer: Answer::Done(0),
+        Ok((count, n)) => Headed {
+            answer: Ok(0),
             head: head_of(register, index, count, chains, n),
         },
-        Register::Refused(refusal) => Headed {
-            answer: Answer::Refused(refusal),
+        Err(refusal) => Headed {
+            answer: Err(refusal),
             head: zero_head(),
         },
     }
 }
 
 // Numbers 1 to 10 of a register, then 17 where the head that it is lent with is not its own; and the rows of a register that is accepted.
-pub fn judge_lent(register: &[u8], head: Head, index: &mut [u64], chains: &mut [u64]) -> Register
+pub fn judge_lent(
+    register: &[u8],
+    head: Head,
+    index: &mut [u64],
+    chains: &mut [u64],
+) -> Result<(usize, usize), Refusal>
     requires { RoomFor register.now 1 (length index.old) × RoomFor register.now 2 (length chains.old) }
     ensures { LentSays register.now head result index.new chains.new }
 {
     match judge(register, index, chains) {
-        Register::Accepted(count, n) => {
+        Ok((count, n)) => {
             let own = head_of(register, index, count, chains, n);
             if !same_head(head, own) {
-                return Register::Refused(Refusal::UntrueHead);
+                return Err(Refusal::UntrueHead);
             }
-            Register::Accepted(count, n)
+            Ok((count, n))
         }
-        Register::Refused(refusal) => Register::Refused(refusal),
+        Err(refusal) => Err(refusal),
     }
 }

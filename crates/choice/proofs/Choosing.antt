@@ -1,4 +1,5 @@
 -- The row of a result, word by word.
+use Rattle.std.specs.Prelude.{Some}
 use Prim.Native.Nat.{ℕ, zero, suc, ◌+◌, ◌-◌, ◌≤◌, ◌<◌}
 use mathlib.Core.Path.{◌≡◌, refl, sym, ap, ◌∙◌}
 use mathlib.Core.List.{List, [], ◌∷◌, ◌++◌, map, map-append}
@@ -12,7 +13,6 @@ use Rattle.tree.specs.Record.{Record}
 use Rattle.row.specs.Row.{record_of_word, records_of}
 use Rattle.row.proofs.Rows.{records_length}
 use Rattle.choice.specs.Choice.{AppendSays}
-use Rattle.choice.specs.declared.choose.Chosen.TheVariants.{Count}
 
 -- ---- the rest of a row behind its first words
 -- the first i words of the rest are there
@@ -38,7 +38,7 @@ module _ (row : List ℕ) (k limit : ℕ) (words : List ℕ) (from to : ℕ) (ro
       let word : get_or words (from + i) 0 ≡ get_or rest i 0 = sym (get_or-take (to - from) (drop from words) i 0 h ∙ get_or-drop from words i 0) in
       rw (u, add-one i, word) (paste-suc row k rest i 0 (omega arith) (omega arith))
 
-  pub appended_all : i ≤ to - from → to - from ≤ i → AppendSays row k limit (take (to - from) (drop from words)) (Count (k + i)) row'
+  pub appended_all : i ≤ to - from → to - from ≤ i → AppendSays row k limit (take (to - from) (drop from words)) (Some (k + i)) row'
   unfolding AppendedSoFar
   appended_all h g =
       let count = part_count words from to order there in

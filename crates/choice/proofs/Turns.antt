@@ -1,4 +1,7 @@
 -- Two rows combined, turn by turn.
+use Rattle.std.specs.declared.cmp.Ordering.{Ordering}
+use Rattle.std.specs.declared.cmp.Ordering.TheVariants.{Less, Equal, Greater}
+use Rattle.std.specs.Prelude.{Option, Some, None}
 use Prim.Native.Nat.{ℕ, ◌+◌, ◌-◌, ◌≤◌, ◌<◌}
 use mathlib.Core.Path.{◌≡◌, refl, sym, ap, subst, ◌∙◌}
 use mathlib.Core.Bool.{Bool, true, false, cond}
@@ -12,8 +15,6 @@ use Rattle.limits.specs.Limits.{most}
 use Rattle.bytestring.proofs.Equal.{equal-cases}
 use Rattle.bytestring.proofs.Tools.{All, all_append, part_taken}
 use Rattle.key.specs.Key.{order}
-use Rattle.key.specs.declared.Order.{Order}
-use Rattle.key.specs.declared.Order.TheVariants.{Less, Equal, Greater}
 use Rattle.key.proofs.Laws.{order_less, order_equal, order_greater}
 use Rattle.tree.specs.Record.{Record}
 use Rattle.row.specs.Row.{source_of, record_of_word, Stands, Row, records_of}
@@ -27,15 +28,13 @@ use Rattle.choice.specs.declared.cursor.Cursor.{Cursor}
 use Rattle.choice.specs.declared.policy.Policy.{Policy}
 use Rattle.choice.specs.declared.policy.Policy.TheVariants.{Merged, Lacking}
 use Rattle.choice.specs.declared.policy.Candidate.{Candidate}
-use Rattle.choice.specs.declared.choose.Chosen.{Chosen}
-use Rattle.choice.specs.declared.choose.Chosen.TheVariants.{Count, TooMany}
 use Rattle.choice.proofs.Weaving.{combined_none, combined_first, combined_second, combined_both, weave_whole}
 use Rattle.choice.proofs.Sifting.{sift_end, sift_few}
 use Rattle.choice.proofs.Choosing.{all_first, first_at, all_drop, records_past, records_cons, records_snoc, records_slice}
 
 -- ---- two words for records under one key
 -- the word is one of the two
-greater_either : (P : ℕ → Type 0) {x y : ℕ} → P x → P y → (o : Order) → P (greater_word o x y)
+greater_either : (P : ℕ → Type 0) {x y : ℕ} → P x → P y → (o : Ordering) → P (greater_word o x y)
 greater_either P p q Less = q
 greater_either P p q Equal = p
 greater_either P p q Greater = p
@@ -44,7 +43,7 @@ module _ (s u : List ℕ) (x y : ℕ) where
   abbrev value_of : ℕ → List ℕ
   value_of w = (record_of_word s u w).val
 
-  abbrev by_value_lem : Order
+  abbrev by_value_lem : Ordering
   by_value_lem = value_order (value_of x) (value_of y)
 
   greater_record : (record_of_word s u x).key ≡ (record_of_word s u y).key
@@ -75,10 +74,10 @@ module _ (s u : List ℕ) (x y : ℕ) where
   abbrev kept_of : Candidate → List Record
   kept_of c = cond c.kept (record_of_word s u c.word ∷ []) []
 
-  abbrev candidate : Policy → Order → Candidate
+  abbrev candidate : Policy → Ordering → Candidate
   candidate p o = candidate_of p o (value_of x) (value_of y) x y
 
-  candidate_stands : Stands s u x → Stands s u y → (p : Policy) (o : Order) → Stands s u (candidate p o).word
+  candidate_stands : Stands s u x → Stands s u y → (p : Policy) (o : Ordering) → Stands s u (candidate p o).word
   candidate_stands h k p Less = h
   candidate_stands h k Merged Equal = greater_either (Stands s u) h k by_value_lem
   candidate_stands h k Lacking Equal = k
@@ -98,7 +97,7 @@ module _ (s u : List ℕ) (x y : ℕ) where
       value-connected (value_of x) (value_of y) (λ g. rw (h, g)) (λ q. absurd (n q))
       (λ g. rw (h, g, value_asymmetric (value_of y) (value_of x) g)))
 
-  candidate_first : (p : Policy) (o : Order) → order (record_of_word s u x).key (record_of_word s u y).key ≡ o → (ms rs : List Record)
+  candidate_first : (p : Policy) (o : Ordering) → order (record_of_word s u x).key (record_of_word s u y).key ≡ o → (ms rs : List Record)
       → combined (rule_of p) (record_of_word s u x ∷ ms) (record_of_word s u y ∷ rs)
       ≡ kept_of (candidate p o) ++ combined (rule_of p) (cond (candidate p o).first ms (record_of_word s u x ∷ ms)) (cond (candidate p o).second rs (record_of_word s u y ∷ rs))
   candidate_first p Less e ms rs =
@@ -209,10 +208,10 @@ module _ {s u first : List ℕ} {n : ℕ} {second : List ℕ} {m : ℕ} {p : Pol
 
   -- what is left goes behind the row
   ended : (words : List ℕ) → All (Stands s u) words → map (record_of_word s u) words ≡ later a.at b.at
-      → (r : Chosen) (row' : List ℕ) → length row' ≡ length row → AppendSays row k limit words r row'
+      → (r : Option ℕ) (row' : List ℕ) → length row' ≡ length row → AppendSays row k limit words r row'
       → WithinSays limit s u (combined_of p s u first n second m) r row'
   unfolding records_of
-  ended words standing same (Count c) row' same_length says =
+  ended words standing same (Some c) row' same_length says =
       let room : c ≤ length row' = omega (arith, says.1, f.room) in
       record {
         whole = record {
@@ -224,9 +223,9 @@ module _ {s u first : List ℕ} {n : ℕ} {second : List ℕ} {m : ℕ} {p : Pol
         };
         records = rw says.2 (map-append (record_of_word s u) (take k row) words ∙ rw same f.records);
       }
-  ended words standing same TooMany row' same_length says = omega (arith, says, size, ap length (sym same), length-map words (record_of_word s u))
+  ended words standing same None row' same_length says = omega (arith, says, size, ap length (sym same), length-map words (record_of_word s u))
 
-  module _ (r : Chosen) (row' : List ℕ) (same_length : length row' ≡ length row) where
+  module _ (r : Option ℕ) (row' : List ℕ) (same_length : length row' ≡ length row) where
     -- the second row is used up
     pub ends_second : m ≤ b.at → {end : ℕ} → (end ≡ rest_end p a.at n) × (a.at ≤ end) × (end ≤ n) → AppendSays row k limit (take (end - a.at) (drop a.at first)) r row'
         → WithinSays limit s u (combined_of p s u first n second m) r row'
@@ -262,7 +261,7 @@ module _ {s u first : List ℕ} {n : ℕ} {second : List ℕ} {m : ℕ} {p : Pol
       record { word = omega (arith, f.other.room); key = recalled_second.room; value = recalled_second.within },
     )
 
-    abbrev by_key : Order
+    abbrev by_key : Ordering
     by_key = order (held_key keys a) (held_key others b)
 
     module _ (c : Candidate) (ec : c ≡ candidate_at p s u first keys a second others b) where
@@ -280,7 +279,7 @@ module _ {s u first : List ℕ} {n : ℕ} {second : List ℕ} {m : ℕ} {p : Pol
       pub turn_less : {i j : ℕ} → i ≡ cond c.first (a.at + 1) a.at → j ≡ cond c.second (b.at + 1) b.at → (n - i) + (m - j) < (n - a.at) + (m - b.at)
       turn_less ei ej = goes_on by_key (ei ∙ rw candidate_is) (ej ∙ rw candidate_is)
         where
-          goes_on : {i j : ℕ} (o : Order) → i ≡ cond (candidate s u x y p o).first (a.at + 1) a.at → j ≡ cond (candidate s u x y p o).second (b.at + 1) b.at
+          goes_on : {i j : ℕ} (o : Ordering) → i ≡ cond (candidate s u x y p o).first (a.at + 1) a.at → j ≡ cond (candidate s u x y p o).second (b.at + 1) b.at
               → (n - i) + (m - j) < (n - a.at) + (m - b.at)
           goes_on Less ei ej = omega arith
           goes_on Equal ei ej = omega arith
@@ -315,15 +314,15 @@ module _ {s u first : List ℕ} {n : ℕ} {second : List ℕ} {m : ℕ} {p : Pol
         }
 
 -- ---- what the second row has that the first does not hold
-module _ (s u first : List ℕ) (n : ℕ) (second : List ℕ) (m : ℕ) (row : List ℕ) (r : Chosen) (says : WithinSays m s u (combined_of Lacking s u first n second m) r row) where
-  abbrev said : {x : Chosen} → r ≡ x → WithinSays m s u (combined_of Lacking s u first n second m) x row
-  said e = subst (λ (x : Chosen). WithinSays m s u (combined_of Lacking s u first n second m) x row) e says
+module _ (s u first : List ℕ) (n : ℕ) (second : List ℕ) (m : ℕ) (row : List ℕ) (r : Option ℕ) (says : WithinSays m s u (combined_of Lacking s u first n second m) r row) where
+  abbrev said : {x : Option ℕ} → r ≡ x → WithinSays m s u (combined_of Lacking s u first n second m) x row
+  said e = subst (λ (x : Option ℕ). WithinSays m s u (combined_of Lacking s u first n second m) x row) e says
 
-  pub sifted_row : {count : ℕ} → r ≡ Count count → RowOf s u row count (sifted_of s u first n second m)
+  pub sifted_row : {count : ℕ} → r ≡ Some count → RowOf s u row count (sifted_of s u first n second m)
   unfolding combined_of rule_of sifted_of
   sifted_row e = said e
 
-  pub never_too_many : Row s u second m → r ≡ TooMany → ⊥
+  pub never_too_many : Row s u second m → r ≡ None → ⊥
   unfolding combined_of rule_of
   never_too_many other e =
       omega (arith, said e, sift_few (records_of s u first n) (records_of s u second m), records_length s u second m other.room)

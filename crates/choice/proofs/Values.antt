@@ -1,4 +1,6 @@
 -- The order of two values, from that of their digests and that of their codecs.
+use Rattle.std.specs.declared.cmp.Ordering.{Ordering}
+use Rattle.std.specs.declared.cmp.Ordering.TheVariants.{Less, Equal, Greater}
 use Prim.Native.Nat.{ℕ, ◌-◌}
 use mathlib.Core.Path.{◌≡◌, sym, ◌∙◌}
 use mathlib.Core.Bool.{true}
@@ -8,8 +10,6 @@ use lib.ListN.{length, take, drop, length-drop}
 use lib.Seq.{take_all, length-take-le}
 use Rattle.value.specs.Value.{value_digest}
 use Rattle.key.specs.Key.{order}
-use Rattle.key.specs.declared.Order.{Order}
-use Rattle.key.specs.declared.Order.TheVariants.{Less, Equal, Greater}
 use Rattle.key.proofs.Laws.{less-connected, less_order, equal_order, greater_order, order_less, order_equal, order_greater}
 use Rattle.promises.specs.Map.{less_value}
 use Rattle.promises.proofs.ValueOrder.{same_parts, lesser_digest, lesser_codec, value_asymmetric, value_same}
@@ -26,7 +26,7 @@ same_value : (v w : List ℕ) → v ≡ w → value_order v w ≡ Equal
 unfolding value_order
 same_value v w e = rw (value_same v w e, value_same w v (sym e))
 
-module _ (v w : List ℕ) (n : length v ≡ 33) (m : length w ≡ 33) (o : Order) (compared : o ≡ order (take (33 - 1) (drop 1 v)) (take (33 - 1) (drop 1 w))) where
+module _ (v w : List ℕ) (n : length v ≡ 33) (m : length w ≡ 33) (o : Ordering) (compared : o ≡ order (take (33 - 1) (drop 1 v)) (take (33 - 1) (drop 1 w))) where
   -- what is compared are the digests
   digests : order (value_digest v) (value_digest w) ≡ o
   digests = sym (rw (take_all 32 (drop 1 v) (omega (arith, length-drop 1 v)), take_all 32 (drop 1 w) (omega (arith, length-drop 1 w))) at compared)
@@ -38,7 +38,7 @@ module _ (v w : List ℕ) (n : length v ≡ 33) (m : length w ≡ 33) (o : Order
   values_greater e = sym (lesser_value w v (lesser_digest w v (order_greater (value_digest v) (value_digest w) (digests ∙ e)))).1
 
   -- where they are equal, the codecs decide
-  pub codecs_decide : o ≡ Equal → (r : Order) → r ≡ order (take 1 v) (take 1 w) → r ≡ value_order v w
+  pub codecs_decide : o ≡ Equal → (r : Ordering) → r ≡ order (take 1 v) (take 1 w) → r ≡ value_order v w
   codecs_decide e r f =
       let same = order_equal (value_digest v) (value_digest w) (digests ∙ e) in
       f ∙ less-connected (take 1 v) (take 1 w)

@@ -1,11 +1,11 @@
 -- The records of a result, from those of two rows in key order.
-use Rattle.std.specs.Prelude.{ℕ, ◌+◌, ◌≤◌, ◌<◌, ◌≡◌, Bool, true, false, cond, List, [], ◌∷◌, ◌++◌, length, take, drop, get_or, set}
+use Rattle.std.specs.declared.cmp.Ordering.{Ordering}
+use Rattle.std.specs.declared.cmp.Ordering.TheVariants.{Less, Equal, Greater}
+use Rattle.std.specs.Prelude.{ℕ, ◌+◌, ◌≤◌, ◌<◌, ◌≡◌, Bool, true, false, cond, List, [], ◌∷◌, ◌++◌, length, take, drop, get_or, set, Option, Some, None}
 use Rattle.value.specs.Value.{digest_length, value_in}
 use Rattle.limits.specs.Limits.{most}
 use Rattle.bytestring.specs.Bytes.{equal}
 use Rattle.key.specs.Key.{less, order}
-use Rattle.key.specs.declared.Order.{Order}
-use Rattle.key.specs.declared.Order.TheVariants.{Less, Equal, Greater}
 use Rattle.tree.specs.Record.{Record}
 use Rattle.row.specs.Row.{source_of, Row, records_of}
 use Rattle.row.specs.Memory.{Remembers, Recalls}
@@ -14,8 +14,6 @@ use Rattle.choice.specs.declared.cursor.Cursor.{Cursor}
 use Rattle.choice.specs.declared.policy.Policy.{Policy}
 use Rattle.choice.specs.declared.policy.Policy.TheVariants.{Merged, Lacking}
 use Rattle.choice.specs.declared.policy.Candidate.{Candidate}
-use Rattle.choice.specs.declared.choose.Chosen.{Chosen}
-use Rattle.choice.specs.declared.choose.Chosen.TheVariants.{Count, TooMany}
 
 -- ---- two sets combined, in key order
 -- What a rule keeps of a record whose key only the first set has, and of two records under one key. A record whose key only the second set
@@ -73,7 +71,7 @@ combined_of policy s u first n second m = combined (rule_of policy) (records_of 
 
 -- ---- the next word of a row
 -- The order of values as one of three cases.
-unfoldable pub value_order : List ℕ → List ℕ → Order
+unfoldable pub value_order : List ℕ → List ℕ → Ordering
 value_order v w = cond (less_value v w) Less (cond (less_value w v) Greater Equal)
 
 -- The value whose digest stands at a place of the register that a word belongs to.
@@ -81,7 +79,7 @@ unfoldable pub value_at : List ℕ → List ℕ → ℕ → ℕ → List ℕ
 value_at s u w place = value_in (source_of s u w) place
 
 -- Of two words, that of the greater value, where the values stand in this order.
-abbrev pub greater_word : Order → ℕ → ℕ → ℕ
+abbrev pub greater_word : Ordering → ℕ → ℕ → ℕ
 greater_word Less first second = second
 greater_word Equal first second = first
 greater_word Greater first second = first
@@ -97,11 +95,11 @@ keeps_first Merged = true
 keeps_first Lacking = false
 
 -- Of two words for records under one key, by the order of their values: the one whose turn it is, and whether it is kept.
-abbrev pub word_of_both : Policy → Order → ℕ → ℕ → ℕ
+abbrev pub word_of_both : Policy → Ordering → ℕ → ℕ → ℕ
 word_of_both Merged values first second = greater_word values first second
 word_of_both Lacking values first second = second
 
-abbrev pub keeps_of_both : Policy → Order → Bool
+abbrev pub keeps_of_both : Policy → Ordering → Bool
 keeps_of_both Merged values = true
 keeps_of_both Lacking Less = true
 keeps_of_both Lacking Equal = false
@@ -109,7 +107,7 @@ keeps_of_both Lacking Greater = true
 
 -- Of the next words of two rows, by the order of their keys and by their values: the one whose turn it is, whether it is kept, and which rows
 -- go on.
-abbrev pub candidate_of : Policy → Order → List ℕ → List ℕ → ℕ → ℕ → Candidate
+abbrev pub candidate_of : Policy → Ordering → List ℕ → List ℕ → ℕ → ℕ → Candidate
 candidate_of policy Less v w first second = record { word = first; kept = keeps_first policy; first = true; second = false }
 candidate_of policy Equal v w first second = record {
   word = word_of_both policy (value_order v w) first second;
@@ -152,9 +150,9 @@ rest_end Merged i n = n
 rest_end Lacking i n = i
 
 -- Behind the first k words of a row stands the rest of another, unless that is more than the limit.
-abbrev pub AppendSays : List ℕ → ℕ → ℕ → List ℕ → Chosen → List ℕ → Type 0
-AppendSays row k limit rest (Count n) row' = (n ≡ k + length rest) × (n ≤ limit) × (take n row' ≡ take k row ++ rest)
-AppendSays row k limit rest TooMany row' = limit < k + length rest
+abbrev pub AppendSays : List ℕ → ℕ → ℕ → List ℕ → Option ℕ → List ℕ → Type 0
+AppendSays row k limit rest (Some n) row' = (n ≡ k + length rest) × (n ≤ limit) × (take n row' ≡ take k row ++ rest)
+AppendSays row k limit rest None row' = limit < k + length rest
 
 -- The first n words of a row stand for these records.
 pub record RowOf (s u row : List ℕ) (n : ℕ) (rs : List Record) : Type 0 where
@@ -162,9 +160,9 @@ pub record RowOf (s u row : List ℕ) (n : ℕ) (rs : List Record) : Type 0 wher
   pub records : records_of s u row n ≡ rs
 
 -- A row stands for these records, unless they are more than the limit.
-abbrev pub WithinSays : ℕ → List ℕ → List ℕ → List Record → Chosen → List ℕ → Type 0
-WithinSays limit s u rs (Count n) row = RowOf s u row n rs
-WithinSays limit s u rs TooMany row = limit < length rs
+abbrev pub WithinSays : ℕ → List ℕ → List ℕ → List Record → Option ℕ → List ℕ → Type 0
+WithinSays limit s u rs (Some n) row = RowOf s u row n rs
+WithinSays limit s u rs None row = limit < length rs
 
-abbrev pub ChooseSays : List ℕ → List ℕ → List Record → Chosen → List ℕ → Type 0
+abbrev pub ChooseSays : List ℕ → List ℕ → List Record → Option ℕ → List ℕ → Type 0
 ChooseSays = WithinSays most

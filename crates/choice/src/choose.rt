@@ -8,13 +8,6 @@ use crate::cursor::{Cursor, advance, cursor_at, order_of};
 use crate::policy::{Candidate, Policy, candidate_of, rest_end};
 use limits::MOST;
 
-// How many records were chosen, or that they are too many for a register.
-#[derive(Clone, Copy)]
-pub enum Chosen {
-    Count(usize),
-    TooMany,
-}
-
 // The word goes behind the first k of the row, if it is kept and there is a place for it. The count answered is past the limit where there is
 // none.
 fn keep(row: &mut [u64], k: usize, limit: usize, word: u64, kept: bool) -> usize
@@ -32,19 +25,26 @@ fn keep(row: &mut [u64], k: usize, limit: usize, word: u64, kept: bool) -> usize
 }
 
 // The words of a row from a position up to another, behind the k words chosen so far, if that makes no more than the limit.
-fn append(row: &mut [u64], k: usize, limit: usize, words: &[u64], from: usize, to: usize) -> Chosen
+fn append(
+    row: &mut [u64],
+    k: usize,
+    limit: usize,
+    words: &[u64],
+    from: usize,
+    to: usize,
+) -> Option<usize>
     requires { (k ≤ limit) × (limit ≤ length row.old) × (from ≤ to) × (to ≤ length words.now) }
     ensures { AppendSays row.old k limit (take (to - from) (drop from words.now)) result row.new }
 {
     if limit - k < to - from {
-        return Chosen::TooMany;
+        return None;
     }
     let mut i = 0;
     while i < to - from {
         row[k + i] = words[from + i];
         i += 1;
     }
-    Chosen::Count(k + i)
+    Some(k + i)
 }
 
 // Of the words at two cursors the one whose turn it is.
@@ -80,7 +80,7 @@ fn combine(
     policy: Policy,
     limit: usize,
     row: &mut [u64],
-) -> Chosen
+) -> Option<usize>
     requires { Row s.now u.now first.now n × Row s.now u.now second.now m × (limit ≤ most) × (limit ≤ length row.old) }
     ensures { WithinSays limit s.now u.now (combined_of policy s.now u.now first.now n second.now m) result row.new }
 {
@@ -99,7 +99,7 @@ fn combine(
         let next = candidate_at(s, u, policy, first, &keys, a, second, &others, b);
         k = keep(row, k, limit, next.word, next.kept);
         if limit < k {
-            return Chosen::TooMany;
+            return None;
         }
         a = advance(s, u, first, n, a, next.first, &mut keys, &mut notes);
         b = advance(s, u, second, m, b, next.second, &mut others, &mut marks);
@@ -116,7 +116,7 @@ pub fn choose(
     second: &[u64],
     m: usize,
     row: &mut [u64],
-) -> Chosen
+) -> Option<usize>
     requires { Row s.now u.now first.now n × Row s.now u.now second.now m × (most ≤ length row.old) }
     ensures { ChooseSays s.now u.now (woven_of true s.now u.now first.now n second.now m) result row.new }
 {
@@ -137,7 +137,7 @@ pub fn leave_held(
     ensures { RowOf s.now u.now row.new result (sifted_of s.now u.now first.now n second.now m) }
 {
     match combine(s, u, first, n, second, m, Policy::Lacking, m, row) {
-        Chosen::Count(count) => count,
-        Chosen::TooMany => 0,
+        Some(count) => count,
+        None => 0,
     }
 }

@@ -5,9 +5,9 @@ ghost use Rattle.row.specs.Row.{Row};
 ghost use Rattle.row.specs.Memory.{Remembers};
 ghost use Rattle.choice.specs.Choice.{Held, held_key};
 
-use key::Order;
 use key_order::compare;
 use row::recall::recall;
+use std::cmp::Ordering;
 
 // A position of a row; where its record's key stands in the memory, the key's length, and the place of the value in its register.
 #[derive(Clone, Copy)]
@@ -69,7 +69,7 @@ pub fn advance(
 }
 
 // The order of the keys at two cursors.
-pub fn order_of(keys: &[u8], a: Cursor, others: &[u8], b: Cursor) -> Order
+pub fn order_of(keys: &[u8], a: Cursor, others: &[u8], b: Cursor) -> Ordering
     requires { (a.from + a.size ≤ length keys.now) × (b.from + b.size ≤ length others.now) }
     ensures { result ≡ order (held_key keys.now a) (held_key others.now b) }
 {

@@ -4,9 +4,9 @@ ghost use Rattle.value.specs.Value.{digest_length};
 ghost use Rattle.row.specs.Row.{source_of};
 ghost use Rattle.choice.specs.Choice.{value_order, value_at, word_of, keeps_first, word_of_both, keeps_of_both, candidate_of, rest_end};
 
-use key::Order;
 use key_order::compare;
 use row::bytes::value_of;
+use std::cmp::Ordering;
 use value::Value;
 
 // Two rows are merged, where of two values under one key the greater is kept; or of the second row's records those are kept that the first
@@ -27,18 +27,25 @@ pub struct Candidate {
 }
 
 // The order of two values: of their digests and, where these are equal, of their codecs.
-fn compare_values(v: Value, w: Value) -> Order
+fn compare_values(v: Value, w: Value) -> Ordering
     ensures { result ≡ value_order v w }
 {
     match compare(&v[1..], &w[1..]) {
-        Order::Less => Order::Less,
-        Order::Equal => compare(&v[..1], &w[..1]),
-        Order::Greater => Order::Greater,
+        Ordering::Less => Ordering::Less,
+        Ordering::Equal => compare(&v[..1], &w[..1]),
+        Ordering::Greater => Ordering::Greater,
     }
 }
 
 // The order of the values of two words, whose digests stand at these places.
-fn order_of_values(s: &[u8], u: &[u8], first: u64, place: usize, second: u64, other: usize) -> Order
+fn order_of_values(
+    s: &[u8],
+    u: &[u8],
+    first: u64,
+    place: usize,
+    second: u64,
+    other: usize,
+) -> Ordering
     requires { (place + digest_length ≤ length (source_of s.now u.now first)) × (other + digest_length ≤ length (source_of s.now u.now second)) }
     ensures { result ≡ value_order (value_at s.now u.now first place) (value_at s.now u.now second other) }
 {
@@ -48,14 +55,14 @@ fn order_of_values(s: &[u8], u: &[u8], first: u64, place: usize, second: u64, ot
 }
 
 // Of two words for records under one key, whose values stand in this order, the one whose turn it is.
-fn word_of_both(policy: Policy, values: Order, first: u64, second: u64) -> u64
+fn word_of_both(policy: Policy, values: Ordering, first: u64, second: u64) -> u64
     ensures { result ≡ word_of_both policy values first second }
 {
     match policy {
         Policy::Merged => match values {
-            Order::Less => second,
-            Order::Equal => first,
-            Order::Greater => first,
+            Ordering::Less => second,
+            Ordering::Equal => first,
+            Ordering::Greater => first,
         },
         Policy::Lacking => second,
     }
@@ -92,15 +99,15 @@ fn keeps_first(policy: Policy) -> bool
 }
 
 // Whether one of two records under one key is kept, where their values stand in this order.
-fn keeps_of_both(policy: Policy, values: Order) -> bool
+fn keeps_of_both(policy: Policy, values: Ordering) -> bool
     ensures { result ≡ keeps_of_both policy values }
 {
     match policy {
         Policy::Merged => true,
         Policy::Lacking => match values {
-            Order::Less => true,
-            Order::Equal => false,
-            Order::Greater => true,
+            Ordering::Less => true,
+            Ordering::Equal => false,
+            Ordering::Greater => true,
         },
     }
 }
@@ -110,7 +117,7 @@ pub fn candidate_of(
     s: &[u8],
     u: &[u8],
     policy: Policy,
-    order: Order,
+    order: Ordering,
     first: u64,
     place: usize,
     second: u64,
@@ -120,13 +127,13 @@ pub fn candidate_of(
     ensures { result ≡ candidate_of policy order (value_at s.now u.now first place) (value_at s.now u.now second other) first second }
 {
     match order {
-        Order::Less => Candidate {
+        Ordering::Less => Candidate {
             word: first,
             kept: keeps_first(policy),
             first: true,
             second: false,
         },
-        Order::Equal => {
+        Ordering::Equal => {
             let values = order_of_values(s, u, first, place, second, other);
             Candidate {
                 word: word_of_both(policy, values, first, second),
@@ -135,7 +142,7 @@ pub fn candidate_of(
                 second: true,
             }
         }
-        Order::Greater => Candidate {
+        Ordering::Greater => Candidate {
             word: second,
             kept: true,
             first: false,

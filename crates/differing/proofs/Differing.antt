@@ -1,4 +1,5 @@
 -- The difference of two accepted registers, from the words that are staged to the answer.
+use Rattle.std.specs.Prelude.{Result}
 use Prim.Native.Nat.{ℕ, zero, suc, ◌+◌, ◌^◌, ◌≤◌, ◌<◌}
 use mathlib.Core.Path.{◌≡◌, refl, sym, ap, subst, ◌∙◌}
 use mathlib.Core.Bool.{Bool, true, false, cond, not, ◌&&◌}
@@ -14,8 +15,6 @@ use Rattle.bytestring.proofs.Tools.{All}
 use Rattle.answer.specs.declared.Refusal.{Refusal}
 use Rattle.answer.specs.declared.Refusal.TheVariants.{NoRoom}
 use Rattle.answer.specs.Inner.{with_second}
-use Rattle.answer.specs.declared.Answer.{Answer}
-use Rattle.answer.specs.declared.AnswerOfTwo.{AnswerOfTwo}
 use Rattle.page.specs.Page.{page_bytes}
 use Rattle.tree.specs.Tree.{page, Gap, empty, under, Entries, end, entry}
 use Rattle.tree.specs.Record.{Record, Spelt, records}
@@ -199,7 +198,7 @@ module _ {s u index other : List ℕ} {n m : ℕ} (a : Accepting s index n) (b :
       unfolding difference_outcome difference_verdicts
       outcome = rw (a.given.judged, b.given.judged, staged.opened)
 
-      pub difference_says : {answer : Answer} {out : List ℕ} {d : AnswerOfTwo}
+      pub difference_says : {answer : Result ℕ Refusal} {out : List ℕ} {d : Result (ℕ × ℕ) Refusal}
           → (answer ≡ table_answer (table_of (records_of s u row' k)) room) × (out ≡ table_output (table_of (records_of s u row' k)) room)
           → d ≡ with_second answer r.opened → CountedSays (difference_outcome s u room) room d out
       difference_says says e =

@@ -4,7 +4,7 @@ ghost use Rattle.index.specs.Accepted.{AcceptedIndex, ChainRow};
 ghost use Rattle.promises.specs.Counted.{counted_answer, counted_output};
 ghost use Rattle.promises.specs.Difference.{difference_outcome};
 
-use answer::{AnswerOfTwo, with_second};
+use answer::{Refusal, with_second};
 use choice::choose::leave_held;
 use opened::pass::open_pages;
 use writer::write_table;
@@ -25,7 +25,7 @@ pub fn differ(
     m: usize,
     staged: &mut [u64],
     out: &mut [u8],
-) -> AnswerOfTwo
+) -> Result<(u32, u32), Refusal>
     requires { AcceptedIndex first.now index.now n × AcceptedIndex second.now other.old m × ChainRow first.now first_chains.now first_count × ChainRow second.now second_chains.now second_count × (m ≤ length staged.old) }
     ensures answer { result ≡ counted_answer (difference_outcome first.now second.now (length out.old)) }
     ensures output { out.new ≡ counted_output (difference_outcome first.now second.now (length out.old)) (length out.old) }

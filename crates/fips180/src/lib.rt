@@ -2,11 +2,12 @@
 // above; none of them is a public call.
 #![tactic(auto)]
 
-ghost use Rattle.std.specs.Prelude.{◌≡◌, ◌+◌, ◌*◌, ◌/◌, ◌%◌, ◌^◌, ◌≤◌, length};
-ghost use Rattle.fips180.specs.Words.{Maj, Σ0, Σ1, σ0, σ1};
+ghost use Rattle.std.specs.Prelude.{◌≡◌, ◌+◌, ◌<◌, ◌≤◌, length, bit_xor};
+ghost use Rattle.std.specs.Int.{w32, rotate_right};
+ghost use Rattle.fips180.specs.Words.{shr, Maj, Σ0, Σ1, σ0, σ1};
 ghost use Rattle.fips180.specs.Hash.{word};
 
-// A hash value, and the working variables of the rounds: eight words.
+// A hash value, and the working variables of the rounds: eight words, by the standard's names, which specs/Hash.antt has too.
 #[derive(Clone, Copy)]
 pub struct State {
     pub a: u32,
@@ -26,35 +27,43 @@ pub fn maj(x: u32, y: u32, z: u32) -> u32
     (x & y) ^ (x & z) ^ (y & z)
 }
 
+// What the two Σ have in common: three rotations.
+fn big_sigma<const P: u32, const Q: u32, const R: u32>(x: u32) -> u32
+    ensures { result ≡ bit_xor (bit_xor (rotate_right w32 x P) (rotate_right w32 x Q)) (rotate_right w32 x R) }
+{
+    x.rotate_right(P) ^ x.rotate_right(Q) ^ x.rotate_right(R)
+}
+
 pub fn big_sigma_0(x: u32) -> u32
     ensures { result ≡ Σ0 x }
 {
-    ((x >> 2) | (x << 30)) ^ ((x >> 13) | (x << 19)) ^ ((x >> 22) | (x << 10))
+    big_sigma::<2, 13, 22>(x)
 }
 
 pub fn big_sigma_1(x: u32) -> u32
     ensures { result ≡ Σ1 x }
 {
-    ((x >> 6) | (x << 26)) ^ ((x >> 11) | (x << 21)) ^ ((x >> 25) | (x << 7))
+    big_sigma::<6, 11, 25>(x)
+}
+
+// What the two σ have in common: two rotations and a shift.
+fn small_sigma<const P: u32, const Q: u32, const R: u32>(x: u32) -> u32
+    requires { R < 32 }
+    ensures { result ≡ bit_xor (bit_xor (rotate_right w32 x P) (rotate_right w32 x Q)) (shr R x) }
+{
+    x.rotate_right(P) ^ x.rotate_right(Q) ^ (x >> R)
 }
 
 pub fn small_sigma_0(x: u32) -> u32
     ensures { result ≡ σ0 x }
 {
-    ((x >> 7) | (x << 25)) ^ ((x >> 18) | (x << 14)) ^ (x >> 3)
+    small_sigma::<7, 18, 3>(x)
 }
 
 pub fn small_sigma_1(x: u32) -> u32
     ensures { result ≡ σ1 x }
 {
-    ((x >> 17) | (x << 15)) ^ ((x >> 19) | (x << 13)) ^ (x >> 10)
-}
-
-// Four bytes as a big-endian word.
-fn pack(a: u8, b: u8, c: u8, d: u8) -> u32
-    ensures { result ≡ a * 2 ^ 24 + b * 2 ^ 16 + c * 2 ^ 8 + d }
-{
-    (a as u32) * 0x100_0000 + (b as u32) * 0x1_0000 + (c as u32) * 0x100 + d as u32
+    small_sigma::<17, 19, 10>(x)
 }
 
 // The big-endian word at byte i.
@@ -62,12 +71,5 @@ pub fn load(m: &[u8], i: usize) -> u32
     requires { i + 4 ≤ length m.now }
     ensures { result ≡ word m.now i }
 {
-    pack(m[i], m[i + 1], m[i + 2], m[i + 3])
-}
-
-// The lowest byte of a number.
-pub fn low(x: u64) -> u8
-    ensures { result ≡ x % 256 }
-{
-    (x % 256) as u8
+    u32::from_be_bytes([m[i], m[i + 1], m[i + 2], m[i + 3]])
 }

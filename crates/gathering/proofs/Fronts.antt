@@ -1,4 +1,5 @@
 -- Bytes at the front of an output, and more behind them.
+use Rattle.std.specs.Prelude.{Some, None}
 use Prim.Native.Nat.{ℕ, ◌+◌, ◌-◌, ◌≤◌, ◌<◌}
 use mathlib.Core.Path.{◌≡◌, refl, sym, ap, ◌∙◌}
 use mathlib.Core.List.{List, [], ◌++◌, append-nil}
@@ -8,18 +9,16 @@ use lib.Seq.{length-take-le}
 use Rattle.bytestring.specs.Bytes.{front}
 use Rattle.bytestring.proofs.Lending.{lent, back, onto}
 use Rattle.gathering.specs.Gathered.{WrittenFront}
-use Rattle.gathering.specs.declared.GatheredLength.{GatheredLength}
-use Rattle.gathering.specs.declared.GatheredLength.TheVariants.{Length, NoRoom}
 
-pub nothing_written : (o : List ℕ) → WrittenFront [] o (Length 0) o
+pub nothing_written : (o : List ℕ) → WrittenFront [] o (Some 0) o
 nothing_written o = (refl, refl)
 
 -- what is too long by itself is too long with more behind it
-pub still_lacks : (a b o o' : List ℕ) → WrittenFront a o NoRoom o' → WrittenFront (a ++ b) o NoRoom o'
+pub still_lacks : (a b o o' : List ℕ) → WrittenFront a o None o' → WrittenFront (a ++ b) o None o'
 still_lacks a b o o' w = (omega (arith, w.0, length-append a b), w.1)
 
 -- ---- the output after the first bytes
-module _ (a o : List ℕ) (k : ℕ) (xs : List ℕ) (w : WrittenFront a o (Length k) xs) (same : length xs ≡ length o) where
+module _ (a o : List ℕ) (k : ℕ) (xs : List ℕ) (w : WrittenFront a o (Some k) xs) (same : length xs ≡ length o) where
   pub front_fits : k ≤ length xs
   front_fits = omega (arith, w.0, ap length w.1, length-append a (drop (length a) o))
 
@@ -41,12 +40,12 @@ module _ (a o : List ℕ) (k : ℕ) (xs : List ℕ) (w : WrittenFront a o (Lengt
         )
 
     -- with more behind them
-    pub then_more : (m : ℕ) → WrittenFront b (lent k xs) (Length m) ys → WrittenFront (a ++ b) o (Length (k + m)) (back k xs ys)
+    pub then_more : (m : ℕ) → WrittenFront b (lent k xs) (Some m) ys → WrittenFront (a ++ b) o (Some (k + m)) (back k xs ys)
     then_more m v = (omega (arith, w.0, v.0, length-append a b), onto o a b k xs ys w.1 (sym w.0) v.1)
 
     -- or with too little room for it
-    pub then_lacks : WrittenFront b (lent k xs) NoRoom ys → WrittenFront (a ++ b) o NoRoom (back k xs ys)
+    pub then_lacks : WrittenFront b (lent k xs) None ys → WrittenFront (a ++ b) o None (back k xs ys)
     then_lacks v = (omega (arith, w.0, v.0, lent_length, front_fits, length-append a b), back_length v.1)
 
-    pub sum_fits : (m : ℕ) → WrittenFront b (lent k xs) (Length m) ys → length ys ≡ length (lent k xs) → k + m ≤ length o
+    pub sum_fits : (m : ℕ) → WrittenFront b (lent k xs) (Some m) ys → length ys ≡ length (lent k xs) → k + m ≤ length o
     sum_fits m v e = omega (arith, v.0, ap length v.1, length-append b (drop (length b) (lent k xs)), lent_length, front_fits)

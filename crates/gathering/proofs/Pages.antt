@@ -1,4 +1,5 @@
 -- A page where it is read, and what is written behind its bytes.
+use Rattle.std.specs.Prelude.{Result, Ok, Err, Option, Some, None}
 use Prim.Native.Nat.{ℕ, ◌+◌, ◌-◌, ◌≤◌, ◌<◌}
 use mathlib.Core.Path.{◌≡◌, refl, sym, ap, subst, ◌∙◌}
 use mathlib.Core.Logic.{inl}
@@ -13,8 +14,6 @@ use Rattle.page.proofs.Readers.{read_sub}
 use Rattle.page_reader.specs.Place.{Reads, link_at, PageHere, PageIs}
 use Rattle.page_reader.specs.declared.Stop.{Stop}
 use Rattle.page_reader.specs.declared.PageAt.{PageAt}
-use Rattle.page_reader.specs.declared.PageRead.{PageRead}
-use Rattle.page_reader.specs.declared.PageRead.TheVariants.{Page, PageStop}
 use Rattle.page_reader.proofs.Determined.{not_both}
 use Rattle.page_reader.proofs.Spelling.{page_here, page_ends, page_part}
 use Rattle.promises.specs.Promises.{Among}
@@ -25,22 +24,20 @@ use Rattle.filing.specs.Filed.{page_place, no_page, bytes_at}
 use Rattle.tree_keys.proofs.Following.{order_links}
 use Rattle.gathering.specs.Gathered.{gathered_from, WrittenFront}
 use Rattle.gathering.specs.Inner.{gathered_from_all, TreeStands, LinkStands, EntriesStand, LinkGathered, EntriesGathered}
-use Rattle.gathering.specs.declared.GatheredLength.{GatheredLength}
-use Rattle.gathering.specs.declared.GatheredLength.TheVariants.{Length, NoRoom}
 use Rattle.gathering.proofs.Depth.{from_both}
 use Rattle.gathering.proofs.Fronts.{still_lacks, front_fits, back_length, then_more, then_lacks, sum_fits}
 use Rattle.gathering.proofs.Trees.{gathered_page}
 
 -- ---- the page where it is read
 module _ {s p labels pages : List ℕ} {n i layer : ℕ} (g : TreeStands s p labels pages n i layer)
-    (at : ℕ) (place : at ≡ page_place (get_or pages i 0)) (got : PageRead) (w : PageIs p at got) where
+    (at : ℕ) (place : at ≡ page_place (get_or pages i 0)) (got : Result PageAt Stop) (w : PageIs p at got) where
   stands : (to : ℕ) × Reads page p at (get_or g.raws i no_page) to
   stands = let x = g.filed.places i g.within in (x.0, rw place x.1)
 
-  pub tree_goes_on : (stop : Stop) → got ≡ PageStop stop → ⊥
+  pub tree_goes_on : (stop : Stop) → got ≡ Err stop → ⊥
   tree_goes_on stop q = not_both _ _ stop (sym stands.1.reads ∙ subst (PageIs p at) q w)
 
-  module _ (pa : PageAt) (q : got ≡ Page pa) where
+  module _ (pa : PageAt) (q : got ≡ Ok pa) where
     abbrev size : ℕ
     size = pa.end - at
 
@@ -103,7 +100,7 @@ module _ {s p labels pages : List ℕ} {n i layer : ℕ} (g : TreeStands s p lab
         ∙ ap (λ (l : List ℕ). own ++ l) (from_both g.raws (link_list (link_at p pa.left)) (links_after here.row.entries))
         ∙ sym (append_assoc own left row)
 
-    pub no_room_own : (o : List ℕ) → length o < size → WrittenFront (gathered_from g.raws i) o NoRoom o
+    pub no_room_own : (o : List ℕ) → length o < size → WrittenFront (gathered_from g.raws i) o None o
     no_room_own o h = rw parts (still_lacks (own ++ left) row o o (still_lacks own left o o (omega (arith, own_length), refl)))
 
     -- a page of layer 0 has no links
@@ -123,30 +120,30 @@ module _ {s p labels pages : List ℕ} {n i layer : ℕ} (g : TreeStands s p lab
 
     -- ---- behind its bytes
     module _ (o xs : List ℕ) (e : xs ≡ front (take size (drop at p)) o) (same : length xs ≡ length o) where
-      first_written : WrittenFront own o (Length size) xs
+      first_written : WrittenFront own o (Some size) xs
       first_written = (sym own_length, e ∙ ap (λ (l : List ℕ). front l o) own_bytes)
 
-      pub leaf_written : layer ≡ 0 → WrittenFront (gathered_from g.raws i) o (Length size) xs
+      pub leaf_written : layer ≡ 0 → WrittenFront (gathered_from g.raws i) o (Some size) xs
       leaf_written z = rw (leaf_bytes z) first_written
 
       pub own_inside : size ≤ length xs
       own_inside = front_fits own o size xs first_written same
 
       -- ---- and behind the tree under its left link
-      module _ (ys : List ℕ) (r : GatheredLength) (v : LinkGathered s p labels pages n pa.left layer (lent size xs) r ys) where
-        left_wrote : {k : GatheredLength} → r ≡ k → WrittenFront left (lent size xs) k ys
+      module _ (ys : List ℕ) (r : Option ℕ) (v : LinkGathered s p labels pages n pa.left layer (lent size xs) r ys) where
+        left_wrote : {k : Option ℕ} → r ≡ k → WrittenFront left (lent size xs) k ys
         unfolding left_stands
-        left_wrote z = subst (λ (k : GatheredLength). WrittenFront left (lent size xs) k ys) z (v left_stands)
+        left_wrote z = subst (λ (k : Option ℕ). WrittenFront left (lent size xs) k ys) z (v left_stands)
 
-        pub no_room_left : r ≡ NoRoom → WrittenFront (gathered_from g.raws i) o NoRoom (back size xs ys)
+        pub no_room_left : r ≡ None → WrittenFront (gathered_from g.raws i) o None (back size xs ys)
         no_room_left z =
             rw parts (still_lacks (own ++ left) row o (back size xs ys) (then_lacks own o size xs first_written same left ys (left_wrote z)))
 
-        module _ (k : ℕ) (z : r ≡ Length k) (whole : length ys ≡ length (lent size xs)) where
+        module _ (k : ℕ) (z : r ≡ Some k) (whole : length ys ≡ length (lent size xs)) where
           abbrev both : List ℕ
           both = back size xs ys
 
-          both_written : WrittenFront (own ++ left) o (Length (size + k)) both
+          both_written : WrittenFront (own ++ left) o (Some (size + k)) both
           both_written = then_more own o size xs first_written same left ys k (left_wrote z)
 
           both_length : length both ≡ length o
@@ -158,20 +155,20 @@ module _ {s p labels pages : List ℕ} {n i layer : ℕ} (g : TreeStands s p lab
           pub left_fits : size + k ≤ length o
           left_fits = omega (arith, both_inside, both_length)
 
-          module _ (zs : List ℕ) (q₂ : GatheredLength)
+          module _ (zs : List ℕ) (q₂ : Option ℕ)
               (u : EntriesGathered s p labels pages n pa.first pa.count layer (lent (size + k) both) q₂ zs) where
-            row_wrote : {m : GatheredLength} → q₂ ≡ m → WrittenFront row (lent (size + k) both) m zs
+            row_wrote : {m : Option ℕ} → q₂ ≡ m → WrittenFront row (lent (size + k) both) m zs
             unfolding row_stands
-            row_wrote e₂ = subst (λ (m : GatheredLength). WrittenFront row (lent (size + k) both) m zs) e₂ (u row_stands)
+            row_wrote e₂ = subst (λ (m : Option ℕ). WrittenFront row (lent (size + k) both) m zs) e₂ (u row_stands)
 
-            pub no_room_row : q₂ ≡ NoRoom → WrittenFront (gathered_from g.raws i) o NoRoom (back (size + k) both zs)
+            pub no_room_row : q₂ ≡ None → WrittenFront (gathered_from g.raws i) o None (back (size + k) both zs)
             no_room_row e₂ =
                 rw parts (then_lacks (own ++ left) o (size + k) both both_written both_length row zs (row_wrote e₂))
 
-            pub tree_written : (m : ℕ) → q₂ ≡ Length m
-                → WrittenFront (gathered_from g.raws i) o (Length (size + k + m)) (back (size + k) both zs)
+            pub tree_written : (m : ℕ) → q₂ ≡ Some m
+                → WrittenFront (gathered_from g.raws i) o (Some (size + k + m)) (back (size + k) both zs)
             tree_written m e₂ =
                 rw parts (then_more (own ++ left) o (size + k) both both_written both_length row zs m (row_wrote e₂))
 
-            pub tree_fits : (m : ℕ) → q₂ ≡ Length m → length zs ≡ length (lent (size + k) both) → size + k + m ≤ length o
+            pub tree_fits : (m : ℕ) → q₂ ≡ Some m → length zs ≡ length (lent (size + k) both) → size + k + m ≤ length o
             tree_fits m e₂ = sum_fits (own ++ left) o (size + k) both both_written both_length row zs m (row_wrote e₂)

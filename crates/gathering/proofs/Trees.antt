@@ -1,4 +1,5 @@
 -- The tree under a filed page, and the trees under its links.
+use Rattle.std.specs.Prelude.{Option, Some}
 use Prim.Native.Nat.{ℕ, zero, suc, ◌-◌, ◌≤◌, ◌<◌}
 use mathlib.Core.Path.{◌≡◌, refl, sym, ap, subst, ◌∙◌}
 use mathlib.Core.Logic.{inl, inr}
@@ -30,8 +31,6 @@ use Rattle.tree_keys.proofs.Following.{links_order, order_links, pages_rise, pag
 use Rattle.summing.specs.Summed.{note_at}
 use Rattle.gathering.specs.Gathered.{gathered_from, Notes, WrittenFront}
 use Rattle.gathering.specs.Inner.{gathered_from_all, LeadsBelow, TreeStands, LinkStands, TreeGathered}
-use Rattle.gathering.specs.declared.GatheredLength.{GatheredLength}
-use Rattle.gathering.specs.declared.GatheredLength.TheVariants.{Length}
 use Rattle.gathering.proofs.Depth.{links_there}
 use Rattle.gathering.proofs.Fronts.{nothing_written}
 
@@ -97,7 +96,7 @@ linked_digest_lem p zero z = absurd (z refl)
 linked_digest_lem p (suc before) z = refl
 
 module _ {s p labels pages : List ℕ} {n link layer : ℕ} (g : LinkStands s p labels pages n link layer) where
-  pub link_none : link ≡ 0 → (o : List ℕ) → WrittenFront (gathered_from_all g.tree.raws (link_list (link_at p link))) o (Length 0) o
+  pub link_none : link ≡ 0 → (o : List ℕ) → WrittenFront (gathered_from_all g.tree.raws (link_list (link_at p link))) o (Some 0) o
   unfolding link_at link_list gathered_from_all
   link_none z o = rw z (nothing_written o)
 
@@ -127,7 +126,7 @@ module _ {s p labels pages : List ℕ} {n link layer : ℕ} (g : LinkStands s p 
       unfolding gathered_from gathered_from_all
       link_gathers = rw (linked_digest_lem p link z, append-nil, digest_is)
 
-      pub link_followed : (o : List ℕ) (k : GatheredLength) (o' : List ℕ) → TreeGathered s p labels pages n r (layer - 1) o k o'
+      pub link_followed : (o : List ℕ) (k : Option ℕ) (o' : List ℕ) → TreeGathered s p labels pages n r (layer - 1) o k o'
           → WrittenFront (gathered_from_all g.tree.raws (link_list (link_at p link))) o k o'
       unfolding next_stands summed_stands
       link_followed o k o' v = rw link_gathers (v next_stands)
@@ -143,7 +142,7 @@ module _ {s p labels pages : List ℕ} {n : ℕ} {raws : List RawPage} (w : Note
   pub alone_stands : deepest < note_at pages i → TreeStands s p labels pages n i 0
   alone_stands k = empty_stands w.filed b i h (w.alone i h k)
 
-  module _ (o : List ℕ) (r : GatheredLength) (o' : List ℕ) where
+  module _ (o : List ℕ) (r : Option ℕ) (o' : List ℕ) where
     pub noted_gathered : note_at pages i ≤ deepest → TreeGathered s p labels pages n i (note_at pages i - 1) o r o'
         → WrittenFront (gathered_from raws i) o r o'
     unfolding noted_stands summed_stands

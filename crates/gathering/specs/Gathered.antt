@@ -1,5 +1,5 @@
 -- A register gathered from filed pages into an output.
-use Rattle.std.specs.Prelude.{ℕ, suc, ◌≤◌, ◌<◌, ◌≡◌, List, length, get_or}
+use Rattle.std.specs.Prelude.{ℕ, suc, ◌≤◌, ◌<◌, ◌≡◌, List, length, get_or, Option, Some, None}
 use Rattle.bytestring.specs.Bytes.{front}
 use Rattle.limits.specs.Limits.{deepest}
 use Rattle.fips180.specs.Hash.{sha256}
@@ -10,8 +10,6 @@ use Rattle.summaries.specs.Summary.{Summary}
 use Rattle.filing.specs.Filed.{no_page, bytes_at, pages_by_digest, Filed}
 use Rattle.tree_keys.specs.Ends.{SummaryAt}
 use Rattle.summing.specs.Summed.{note_at}
-use Rattle.gathering.specs.declared.GatheredLength.{GatheredLength}
-use Rattle.gathering.specs.declared.GatheredLength.TheVariants.{Length, NoRoom}
 
 -- The bytes gathered from the i-th page.
 unfoldable pub gathered_from : List RawPage → ℕ → List ℕ
@@ -25,10 +23,10 @@ pub record Notes (s p labels pages : List ℕ) (n : ℕ) (raws : List RawPage) :
   pub alone : (i : ℕ) → i < n → deepest < note_at pages i → get_or raws i no_page ≡ no_page
 
 -- They stand at the front of the output, or it is too short.
-abbrev pub WrittenFront : List ℕ → List ℕ → GatheredLength → List ℕ → Type 0
-WrittenFront bytes out (Length k) out' = (k ≡ length bytes) × (out' ≡ front bytes out)
-WrittenFront bytes out NoRoom out' = (length out < length bytes) × (length out' ≡ length out)
+abbrev pub WrittenFront : List ℕ → List ℕ → Option ℕ → List ℕ → Type 0
+WrittenFront bytes out (Some k) out' = (k ≡ length bytes) × (out' ≡ front bytes out)
+WrittenFront bytes out None out' = (length out < length bytes) × (length out' ≡ length out)
 
-abbrev pub GatherSays : List ℕ → List ℕ → List ℕ → List ℕ → ℕ → ℕ → List ℕ → GatheredLength → List ℕ → Type 0
+abbrev pub GatherSays : List ℕ → List ℕ → List ℕ → List ℕ → ℕ → ℕ → List ℕ → Option ℕ → List ℕ → Type 0
 GatherSays s p labels pages n i out r out' =
     (raws : List RawPage) → Notes s p labels pages n raws → 1 ≤ note_at pages i → WrittenFront (gathered_from raws i) out r out'

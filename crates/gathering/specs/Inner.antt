@@ -1,5 +1,5 @@
 -- What contracts inside this crate cite, and no public contract does.
-use Rattle.std.specs.Prelude.{ℕ, suc, ◌+◌, ◌≤◌, ◌<◌, ◌≡◌, List, [], ◌∷◌, ◌++◌, length, drop, get_or}
+use Rattle.std.specs.Prelude.{ℕ, suc, ◌+◌, ◌≤◌, ◌<◌, ◌≡◌, List, [], ◌∷◌, ◌++◌, length, drop, get_or, Option}
 use Rattle.std.proofs.Math.Option.{some}
 use Rattle.bytestring.specs.Bytes.{Bytes}
 use Rattle.limits.specs.Limits.{deepest}
@@ -14,7 +14,6 @@ use Rattle.summaries.specs.Summary.{Summary, summary}
 use Rattle.sequence.specs.Noted.{links_by_place}
 use Rattle.filing.specs.Filed.{no_page, pages_by_digest, Filed}
 use Rattle.gathering.specs.Gathered.{gathered_from, WrittenFront}
-use Rattle.gathering.specs.declared.GatheredLength.{GatheredLength}
 
 -- The bytes gathered from these digests, one after the other.
 unfoldable pub gathered_from_all : List RawPage → List (List ℕ) → List ℕ
@@ -51,13 +50,13 @@ pub record EntriesStand (s p labels pages : List ℕ) (n first count layer : ℕ
   pub among : (digest : List ℕ) → Among digest (links_after entries) → Among digest (links_by_place (get_or tree.raws i no_page))
 
 -- What is gathered in each case.
-abbrev pub TreeGathered : List ℕ → List ℕ → List ℕ → List ℕ → ℕ → ℕ → ℕ → List ℕ → GatheredLength → List ℕ → Type 0
+abbrev pub TreeGathered : List ℕ → List ℕ → List ℕ → List ℕ → ℕ → ℕ → ℕ → List ℕ → Option ℕ → List ℕ → Type 0
 TreeGathered s p labels pages n i layer out r out' = (g : TreeStands s p labels pages n i layer) → WrittenFront (gathered_from g.raws i) out r out'
 
-abbrev pub LinkGathered : List ℕ → List ℕ → List ℕ → List ℕ → ℕ → ℕ → ℕ → List ℕ → GatheredLength → List ℕ → Type 0
+abbrev pub LinkGathered : List ℕ → List ℕ → List ℕ → List ℕ → ℕ → ℕ → ℕ → List ℕ → Option ℕ → List ℕ → Type 0
 LinkGathered s p labels pages n link layer out r out' =
     (g : LinkStands s p labels pages n link layer) → WrittenFront (gathered_from_all g.tree.raws (link_list (link_at p link))) out r out'
 
-abbrev pub EntriesGathered : List ℕ → List ℕ → List ℕ → List ℕ → ℕ → ℕ → ℕ → ℕ → List ℕ → GatheredLength → List ℕ → Type 0
+abbrev pub EntriesGathered : List ℕ → List ℕ → List ℕ → List ℕ → ℕ → ℕ → ℕ → ℕ → List ℕ → Option ℕ → List ℕ → Type 0
 EntriesGathered s p labels pages n first count layer out r out' =
     (g : EntriesStand s p labels pages n first count layer) → WrittenFront (gathered_from_all g.tree.raws (links_after g.entries)) out r out'

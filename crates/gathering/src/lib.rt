@@ -9,20 +9,13 @@ ghost use Rattle.gathering.specs.Inner.{TreeStands, LinkStands, EntriesStand, Tr
 
 use bytestring::write_bytes;
 use limits::DEEPEST;
-use page_reader::{EntryRead, PageRead, locate_entry, read_page};
+use page_reader::{locate_entry, read_page};
 use tree_keys::linked_page;
 
 // A page's word holds its place below this number, and above it a note below the other.
 const PLACES: u32 = 0x40_0000;
 
 const NOTES: u32 = 0x100;
-
-// The length of what was gathered, or the output is too short for it.
-#[derive(Clone, Copy)]
-pub enum GatheredLength {
-    Length(usize),
-    NoRoom,
-}
 
 // The tree under the i-th page, which has this layer: the page, then the trees under its left link and under those after its entries.
 #[cycle(gather_entries_gather_link_gather_tree)]
@@ -35,21 +28,21 @@ fn gather_tree(
     i: usize,
     layer: usize,
     out: &mut [u8],
-) -> GatheredLength
+) -> Option<usize>
     requires { TreeStands states.now sequence.now labels.now pages.now n i layer }
     ensures { TreeGathered states.now sequence.now labels.now pages.now n i layer out.old result out.new }
 {
     let at = (pages[i] % PLACES) as usize;
     match read_page(sequence, at) {
-        PageRead::Page(p) => {
+        Ok(p) => {
             let end = p.end;
             let own = end - at;
             if out.len() < own {
-                return GatheredLength::NoRoom;
+                return None;
             }
             write_bytes(out, &sequence[at..end]);
             if layer == 0 {
-                return GatheredLength::Length(own);
+                return Some(own);
             }
             match gather_link(
                 states,
@@ -61,7 +54,7 @@ fn gather_tree(
                 layer,
                 &mut out[own..],
             ) {
-                GatheredLength::Length(left) => {
+                Some(left) => {
                     let behind = own + left;
                     match gather_entries(
                         states,
@@ -74,14 +67,14 @@ fn gather_tree(
                         layer,
                         &mut out[behind..],
                     ) {
-                        GatheredLength::Length(below) => GatheredLength::Length(behind + below),
-                        GatheredLength::NoRoom => GatheredLength::NoRoom,
+                        Some(below) => Some(behind + below),
+                        None => None,
                     }
                 }
-                GatheredLength::NoRoom => GatheredLength::NoRoom,
+                None => None,
             }
         }
-        PageRead::PageStop(_) => GatheredLength::NoRoom,
+        Err(_) => None,
     }
 }
 
@@ -96,12 +89,12 @@ fn gather_link(
     link: usize,
     layer: usize,
     out: &mut [u8],
-) -> GatheredLength
+) -> Option<usize>
     requires { LinkStands states.now sequence.now labels.now pages.now n link layer }
     ensures { LinkGathered states.now sequence.now labels.now pages.now n link layer out.old result out.new }
 {
     if link == 0 {
-        return GatheredLength::Length(0);
+        return Some(0);
     }
     let i = linked_page(states, sequence, labels, n, link);
     gather_tree(states, sequence, labels, pages, n, i, layer - 1, out)
@@ -120,7 +113,7 @@ fn gather_entries(
     count: usize,
     layer: usize,
     out: &mut [u8],
-) -> GatheredLength
+) -> Option<usize>
     requires { EntriesStand states.now sequence.now labels.now pages.now n first count layer }
     ensures { EntriesGathered states.now sequence.now labels.now pages.now n first count layer out.old result out.new }
 {
@@ -129,7 +122,7 @@ fn gather_entries(
     let mut j = 0;
     while j < count {
         match locate_entry(sequence, at) {
-            EntryRead::Entry(e) => {
+            Ok(e) => {
                 match gather_link(
                     states,
                     sequence,
@@ -140,22 +133,22 @@ fn gather_entries(
                     layer,
                     &mut out[total..],
                 ) {
-                    GatheredLength::Length(more) => {
+                    Some(more) => {
                         total += more;
                     }
-                    GatheredLength::NoRoom => {
-                        return GatheredLength::NoRoom;
+                    None => {
+                        return None;
                     }
                 }
                 at = e.end;
             }
-            EntryRead::EntryStop(_) => {
-                return GatheredLength::NoRoom;
+            Err(_) => {
+                return None;
             }
         }
         j += 1;
     }
-    GatheredLength::Length(total)
+    Some(total)
 }
 
 // The register whose root is the i-th page, at the front of the output. The empty page has no links, as a page of layer 0.
@@ -167,7 +160,7 @@ pub fn gather_register(
     n: usize,
     i: usize,
     out: &mut [u8],
-) -> GatheredLength
+) -> Option<usize>
     requires { ((raws : List RawPage) × Notes states.now sequence.now labels.now pages.now n raws) × (i < n) × (1 ≤ note_at pages.now i) }
     ensures { GatherSays states.now sequence.now labels.now pages.now n i out.old result out.new }
 {

@@ -4,7 +4,7 @@
 ghost use Rattle.std.specs.Prelude.{◌≡◌};
 ghost use Rattle.head.specs.Head.{zero_head, same_head};
 
-use answer::Answer;
+use answer::Refusal;
 use bytestring::same_bytes;
 use value::{DIGEST, Digest};
 
@@ -20,7 +20,7 @@ pub struct Head {
 // What a call gives back that has a head beside its answer.
 #[derive(Clone, Copy)]
 pub struct Headed {
-    pub answer: Answer,
+    pub answer: Result<u32, Refusal>,
     pub head: Head,
 }
 

@@ -1,4 +1,6 @@
 -- The walk over the entries of a page.
+use Rattle.page_reader.specs.declared.PageAt.{PageAt}
+use Rattle.std.specs.Prelude.{Result, Ok, Err}
 use Prim.Native.Nat.{ℕ, zero, suc, ◌+◌, ◌-◌, ◌≤◌, ◌<◌}
 use mathlib.Core.Path.{◌≡◌, refl, sym, ap, subst, ◌∙◌}
 use mathlib.Core.Bool.{Bool, true}
@@ -18,9 +20,6 @@ use Rattle.page.specs.Page.{RawEntry, entry_bytes, entry as entry_reader}
 use Rattle.page_reader.specs.Place.{Reads, link_at, entry_at, EntryHere, Located, LocatedIs, PageIs}
 use Rattle.page_reader.specs.declared.Stop.{Stop}
 use Rattle.page_reader.specs.declared.EntryAt.{EntryAt}
-use Rattle.page_reader.specs.declared.EntryRead.{EntryRead}
-use Rattle.page_reader.specs.declared.EntryRead.TheVariants.{EntryStop}
-use Rattle.page_reader.specs.declared.PageRead.{PageRead}
 use Rattle.page.proofs.Readers.{read_sub, andThen-inv}
 use Rattle.page_reader.proofs.Places.{then_stops}
 use Rattle.page_reader.proofs.Located.{entry_place}
@@ -34,40 +33,38 @@ use Rattle.index.specs.Slot.{slots, slots_under, slots_from, filled, filled_unde
 use Rattle.index.specs.Chain.{chains, chains_under, chains_from, LabelsAt}
 use Rattle.index.specs.Walk.{holding, Moved, PartWalked, PageSays, EntriesSay, Taken}
 use Rattle.index.specs.declared.walk.WalkState.{WalkState}
-use Rattle.index.specs.declared.walk.Walked.{Walked}
-use Rattle.index.specs.declared.walk.Walked.TheVariants.{Whole, Stopped}
 use Rattle.index.proofs.Moves.{moved_none, moved_seq}
 use Rattle.index.proofs.Lengths.{under_link, under_ends, entry_ends}
 use Rattle.index.proofs.SlotLaws.{slots_count}
 
 -- ---- what an answer says, at the answer that it is
-pub located_is : (s : List ℕ) (at : ℕ) {r x : EntryRead} → LocatedIs s at r → r ≡ x → LocatedIs s at x
+pub located_is : (s : List ℕ) (at : ℕ) {r x : Result EntryAt Stop} → LocatedIs s at r → r ≡ x → LocatedIs s at x
 located_is s at w e = subst (LocatedIs s at) e w
 
-pub page_is : (s : List ℕ) (at : ℕ) {r x : PageRead} → PageIs s at r → r ≡ x → PageIs s at x
+pub page_is : (s : List ℕ) (at : ℕ) {r x : Result PageAt Stop} → PageIs s at r → r ≡ x → PageIs s at x
 page_is s at w e = subst (PageIs s at) e w
 
-pub says_is : (s index row last : List ℕ) (level link above : ℕ) (st : WalkState) (index' row' last' : List ℕ) {r x : Walked}
+pub says_is : (s index row last : List ℕ) (level link above : ℕ) (st : WalkState) (index' row' last' : List ℕ) {r x : Result WalkState Stop}
     → PageSays s index row last level link above st r index' row' last' → r ≡ x → PageSays s index row last level link above st x index' row' last'
-says_is s index row last level link above st index' row' last' w e = subst (λ (y : Walked). PageSays s index row last level link above st y index' row' last') e w
+says_is s index row last level link above st index' row' last' w e = subst (λ (y : Result WalkState Stop). PageSays s index row last level link above st y index' row' last') e w
 
 -- ---- gaps
 -- what is under the gap whose link stands at `link`, or nothing where `link` is 0
-abbrev pub GapSays : List ℕ → List ℕ → List ℕ → List ℕ → ℕ → ℕ → WalkState → Walked → List ℕ → List ℕ → List ℕ → Type 0
+abbrev pub GapSays : List ℕ → List ℕ → List ℕ → List ℕ → ℕ → ℕ → WalkState → Result WalkState Stop → List ℕ → List ℕ → List ℕ → Type 0
 GapSays s index row last level link st r index' row' last' =
     PartWalked s index row last 0 (read_under (read_tree (deepest - suc level)) (link_at s link) (drop st.next s)) (slots_under (level + 1) st.next)
     (chains_under st.count st.next []) prefixes_right_under filled_under st r index' row' last'
 
 pub gap_none : (s index row last : List ℕ) (level link : ℕ) (st : WalkState) → link ≡ 0 → st.next ≤ length s
-    → GapSays s index row last level link st (Whole st) index row last
+    → GapSays s index row last level link st (Ok st) index row last
 unfolding read_under link_at slots chains prefixes_right filled
 gap_none s index row last level link st e h =
     rw e (record { what = empty; reads = refl; few = omega arith; few_chains = omega arith; moved = moved_none h })
 
-gap_some : (s index row last : List ℕ) (level k : ℕ) (st : WalkState) (r : Walked) (index' row' last' : List ℕ) → suc k + 32 ≤ length s
+gap_some : (s index row last : List ℕ) (level k : ℕ) (st : WalkState) (r : Result WalkState Stop) (index' row' last' : List ℕ) → suc k + 32 ≤ length s
     → PageSays s index row last (level + 1) (suc k) 0 st r index' row' last' → GapSays s index row last level (suc k) st r index' row' last'
 unfolding PageSays LabelsAt read_under link_at slots chains prefixes_right filled holding
-gap_some s index row last level k st (Whole st') index' row' last' fits w =
+gap_some s index row last level k st (Ok st') index' row' last' fits w =
     let o = w (take 32 (drop (suc k) s) ∷ []) refl (omega arith, fits, refl, omega arith) in
     record {
       what = under (take 32 (drop (suc k) s)) o.what;
@@ -76,18 +73,18 @@ gap_some s index row last level k st (Whole st') index' row' last' fits w =
       few_chains = o.few_chains;
       moved = o.moved;
     }
-gap_some s index row last level k st (Stopped stop) index' row' last' fits w =
+gap_some s index row last level k st (Err stop) index' row' last' fits w =
     let o = w (take 32 (drop (suc k) s) ∷ []) refl (omega arith, fits, refl, omega arith) in
     rw (← add-one level) (then_stops _ stop o)
 
-pub gap_page : (s index row last : List ℕ) (level link : ℕ) (st : WalkState) (r : Walked) (index' row' last' : List ℕ) → (link ≡ 0 → ⊥) → link + 32 ≤ length s
+pub gap_page : (s index row last : List ℕ) (level link : ℕ) (st : WalkState) (r : Result WalkState Stop) (index' row' last' : List ℕ) → (link ≡ 0 → ⊥) → link + 32 ≤ length s
     → PageSays s index row last (level + 1) link 0 st r index' row' last' → GapSays s index row last level link st r index' row' last'
 gap_page s index row last level zero st r index' row' last' f fits o = absurd (f refl)
 gap_page s index row last level (suc k) st r index' row' last' f fits o = gap_some s index row last level k st r index' row' last' fits o
 
 -- what was read under a gap
 pub gap_ends : (s index row last : List ℕ) (level link : ℕ) (st st' : WalkState) (index' row' last' : List ℕ) → Bytes s
-    → (gap : GapSays s index row last level link st (Whole st') index' row' last')
+    → (gap : GapSays s index row last level link st (Ok st') index' row' last')
     → (link_of gap.what ≡ link_at s link) × (st'.next ≡ st.next + length (table_under gap.what))
 gap_ends s index row last level link st st' index' row' last' slice gap = (
   under_link _ (link_at s link) _ _ gap.what gap.reads,
@@ -96,7 +93,7 @@ gap_ends s index row last level link st st' index' row' last' slice gap = (
 
 -- ---- rows of entries
 -- the walk over the n entries from `at` on, after the key `before`, and over all pages below them
-unfoldable pub RestSays : List ℕ → List ℕ → List ℕ → List ℕ → ℕ → ℕ → ℕ → ℕ → List ℕ → WalkState → Walked → List ℕ → List ℕ → List ℕ → Type 0
+unfoldable pub RestSays : List ℕ → List ℕ → List ℕ → List ℕ → ℕ → ℕ → ℕ → ℕ → List ℕ → WalkState → Result WalkState Stop → List ℕ → List ℕ → List ℕ → Type 0
 RestSays s index row last level pg at n before st r index' row' last' =
     (es : List RawEntry) (past : ℕ) → times n entry_reader (drop at s) ≡ read es (drop past s)
     → PartWalked s index row last n (read_from (read_tree (deepest - suc level)) es (drop st.next s)) (slots_from level pg at st.next before)
@@ -158,7 +155,7 @@ pub record Onward (s index₀ row₀ last₀ : List ℕ) (level pg first n : ℕ
   pub room : length buffer ≡ 256
   pub before : List ℕ
   pub holds : HoldsKey buffer size before
-  pub onward : (r : Walked) (index' row' last' : List ℕ) → RestSays s index row last level pg at (n - i) before st r index' row' last'
+  pub onward : (r : Result WalkState Stop) (index' row' last' : List ℕ) → RestSays s index row last level pg at (n - i) before st r index' row' last'
       → EntriesSay s index₀ row₀ last₀ level pg first n st₀ r index' row' last'
 
 pub onward_start : (s index row last : List ℕ) (level pg first n : ℕ) (st : WalkState) (buffer : List ℕ) → st.next ≤ length s → st.count + n ≤ st.next
@@ -180,10 +177,10 @@ onward_start s index row last level pg first n st buffer h k c f b = record {
 module _ {s index₀ row₀ last₀ : List ℕ} {level pg first n : ℕ} {st₀ : WalkState} {index row last buffer : List ℕ} {size : ℕ} {st : WalkState} {at i : ℕ}
     (so_far : Onward s index₀ row₀ last₀ level pg first n st₀ index row last buffer size st at i) where
   -- no entry is left
-  pub onward_end : n ≤ i → EntriesSay s index₀ row₀ last₀ level pg first n st₀ (Whole st) index row last
+  pub onward_end : n ≤ i → EntriesSay s index₀ row₀ last₀ level pg first n st₀ (Ok st) index row last
   unfolding RestSays read_from slots chains prefixes_right filled
   onward_end h =
-      so_far.onward (Whole st) index row last (λ es past q.
+      so_far.onward (Ok st) index row last (λ es past q.
       rw (times_none entry_reader (n - i) (drop at s) (drop past s) es (omega arith) q)
       (record { what = end; reads = refl; few = omega arith; few_chains = omega arith; moved = moved_none so_far.within }))
 
@@ -198,11 +195,11 @@ module _ {s index₀ row₀ last₀ : List ℕ} {level pg first n : ℕ} {st₀ 
         times_first entry_reader (n - (i + 1)) (drop at s) (drop past s) es (rw one_more at q)
         (λ a t h. k a (at + length (entry_bytes a)) (entry_place s at a t slice h))
 
-    pub onward_there : Bytes s → (got : EntryRead) (stop : Stop) → LocatedIs s at got → got ≡ EntryStop stop
-        → EntriesSay s index₀ row₀ last₀ level pg first n st₀ (Stopped stop) index row last
+    pub onward_there : Bytes s → (got : Result EntryAt Stop) (stop : Stop) → LocatedIs s at got → got ≡ Err stop
+        → EntriesSay s index₀ row₀ last₀ level pg first n st₀ (Err stop) index row last
     unfolding RestSays
     onward_there slice got stop w e =
-        so_far.onward (Stopped stop) index row last (λ es past q. absurd (entry_there slice (located_is s at w e) es past q))
+        so_far.onward (Err stop) index row last (λ es past q. absurd (entry_there slice (located_is s at w e) es past q))
 
     -- it was located, its prefix was tested, its key is in the buffer, and its record was taken
     module _ (slice : Bytes s) (e : EntryAt) (found : Located s at e)
@@ -233,14 +230,14 @@ module _ {s index₀ row₀ last₀ : List ℕ} {level pg first n : ℕ} {st₀ 
           (omega (arith, m.ahead, m.within, n), m.count, omega (arith, m.chain_count))
 
       -- it, what is under its gap, and the entries after it
-      rest_join : EntryHere s at e → (index₂ row₂ last₂ : List ℕ) (st₂ : WalkState) (es : List RawEntry) (r : Walked) (index' row' last' : List ℕ)
-          → GapSays s index₁ row last₁ level e.link st₁ (Whole st₂) index₂ row₂ last₂
+      rest_join : EntryHere s at e → (index₂ row₂ last₂ : List ℕ) (st₂ : WalkState) (es : List RawEntry) (r : Result WalkState Stop) (index' row' last' : List ℕ)
+          → GapSays s index₁ row last₁ level e.link st₁ (Ok st₂) index₂ row₂ last₂
           → PartWalked s index₂ row₂ last₂ (n - (i + 1)) (read_from (read_tree (deepest - suc level)) es (drop st₂.next s))
           (slots_from level pg e.end st₂.next (key_at s e so_far.before)) (chains_from st₂.count st₂.next) (prefixes_right_from (key_at s e so_far.before)) filled_from st₂ r index' row' last'
           → PartWalked s index row last (n - i) (read_from (read_tree (deepest - suc level)) (entry_at s e ∷ es) (drop st.next s))
           (slots_from level pg at st.next so_far.before) (chains_from st.count st.next) (prefixes_right_from so_far.before) filled_from st r index' row' last'
       unfolding read_from prefixes_right filled
-      rest_join here index₂ row₂ last₂ st₂ es (Whole st') index' row' last' gap rest =
+      rest_join here index₂ row₂ last₂ st₂ es (Ok st') index' row' last' gap rest =
           let g : Gap Spelt (List ℕ) = gap.what in
           let (link, below) = gap_ends s index₁ row last₁ level e.link st₁ st₂ index₂ row₂ last₂ slice gap in
           let parts = entry_slots level pg at st.next so_far.before (spelt_at s e) g rest.what e.end st₁.next st₂.next
@@ -257,7 +254,7 @@ module _ {s index₀ row₀ last₀ : List ℕ} {level pg first n : ℕ} {st₀ 
             few_chains = rw pages (omega (arith, onward_record, gap.few_chains, rest.few_chains, number));
             moved = rw (parts, pages) (moved_seq (record_moved s so_far.within (e.end - 32)) (moved_seq gap.moved rest.moved));
           }
-      rest_join here index₂ row₂ last₂ st₂ es (Stopped stop) index' row' last' gap rest = rw (← onward_record.0, gap.reads) (then_stops _ stop rest)
+      rest_join here index₂ row₂ last₂ st₂ es (Err stop) index' row' last' gap rest = rw (← onward_record.0, gap.reads) (then_stops _ stop rest)
 
       -- the first of the entries left
       first_left : {C : Type 0} (es : List RawEntry) (past : ℕ) → times (n - i) entry_reader (drop at s) ≡ read es (drop past s)
@@ -271,7 +268,7 @@ module _ {s index₀ row₀ last₀ : List ℕ} {level pg first n : ℕ} {st₀ 
 
       onward_gap : length buffer₁ ≡ 256 → (index₂ row₂ last₂ : List ℕ) (st₂ : WalkState)
           → st₁.next ≤ st₂.next → st₂.next ≤ length s → st₂.count + st₁.next ≤ st₁.count + st₂.next → st₂.chains + st₁.next ≤ st₁.chains + st₂.next
-          → GapSays s index₁ row last₁ level e.link st₁ (Whole st₂) index₂ row₂ last₂
+          → GapSays s index₁ row last₁ level e.link st₁ (Ok st₂) index₂ row₂ last₂
           → Onward s index₀ row₀ last₀ level pg first n st₀ index₂ row₂ last₂ buffer₁ size₁ st₂ e.end (i + 1)
       unfolding RestSays
       onward_gap room index₂ row₂ last₂ st₂ h k f c gap = record {
@@ -296,21 +293,21 @@ module _ {s index₀ row₀ last₀ : List ℕ} {level pg first n : ℕ} {st₀ 
           (gap_none s index₁ row last₁ level e.link st₁ h (omega (arith, onward_record, so_far.within)))
 
       -- a page is in the gap after it
-      pub onward_page : length buffer₁ ≡ 256 → (e.link ≡ 0 → ⊥) → (index₂ row₂ last₂ : List ℕ) (got : Walked) (st₂ : WalkState)
-          → PageSays s index₁ row last₁ (level + 1) e.link 0 st₁ got index₂ row₂ last₂ → got ≡ Whole st₂
+      pub onward_page : length buffer₁ ≡ 256 → (e.link ≡ 0 → ⊥) → (index₂ row₂ last₂ : List ℕ) (got : Result WalkState Stop) (st₂ : WalkState)
+          → PageSays s index₁ row last₁ (level + 1) e.link 0 st₁ got index₂ row₂ last₂ → got ≡ Ok st₂
           → Onward s index₀ row₀ last₀ level pg first n st₀ index₂ row₂ last₂ buffer₁ size₁ st₂ e.end (i + 1)
       onward_page room h index₂ row₂ last₂ got st₂ w q =
-          let o = gap_page s index₁ row last₁ level e.link st₁ (Whole st₂) index₂ row₂ last₂ h (link_within h)
+          let o = gap_page s index₁ row last₁ level e.link st₁ (Ok st₂) index₂ row₂ last₂ h (link_within h)
           (says_is s index₁ row last₁ (level + 1) e.link 0 st₁ index₂ row₂ last₂ w q) in
           onward_gap room index₂ row₂ last₂ st₂ o.moved.ahead o.moved.within (omega (arith, o.moved.count, o.few)) (omega (arith, o.moved.chain_count, o.few_chains)) o
 
       -- the walk over that page stopped
-      pub onward_stopped : (e.link ≡ 0 → ⊥) → (index₂ row₂ last₂ : List ℕ) (got : Walked) (stop : Stop)
-          → PageSays s index₁ row last₁ (level + 1) e.link 0 st₁ got index₂ row₂ last₂ → got ≡ Stopped stop
-          → EntriesSay s index₀ row₀ last₀ level pg first n st₀ (Stopped stop) index₂ row₂ last₂
+      pub onward_stopped : (e.link ≡ 0 → ⊥) → (index₂ row₂ last₂ : List ℕ) (got : Result WalkState Stop) (stop : Stop)
+          → PageSays s index₁ row last₁ (level + 1) e.link 0 st₁ got index₂ row₂ last₂ → got ≡ Err stop
+          → EntriesSay s index₀ row₀ last₀ level pg first n st₀ (Err stop) index₂ row₂ last₂
       unfolding RestSays read_from
       onward_stopped h index₂ row₂ last₂ got stop w q =
-          let o = gap_page s index₁ row last₁ level e.link st₁ (Stopped stop) index₂ row₂ last₂ h (link_within h)
+          let o = gap_page s index₁ row last₁ level e.link st₁ (Err stop) index₂ row₂ last₂ h (link_within h)
           (says_is s index₁ row last₁ (level + 1) e.link 0 st₁ index₂ row₂ last₂ w q) in
-          so_far.onward (Stopped stop) index₂ row₂ last₂ (λ es past z. first_left es past z (λ _ later p _.
+          so_far.onward (Err stop) index₂ row₂ last₂ (λ es past z. first_left es past z (λ _ later p _.
           rw (p, ← onward_record.0) (then_stops _ stop o)))

@@ -1,4 +1,5 @@
 -- The walk over a page, and over a whole register.
+use Rattle.std.specs.Prelude.{Result, Ok, Err}
 use Prim.Native.Nat.{ℕ, zero, suc, ◌+◌, ◌-◌, ◌*◌, ◌≤◌, ◌<◌}
 use mathlib.Core.Path.{◌≡◌, refl, sym, ap, ◌∙◌}
 use mathlib.Core.Bool.{Bool, true, false, cond, not, ◌&&◌, and-true, and_assoc}
@@ -20,8 +21,6 @@ use Rattle.page_reader.specs.Place.{read_stop, link_at, PageHere, PageIs}
 use Rattle.page_reader.specs.declared.Stop.{Stop}
 use Rattle.page_reader.specs.declared.Stop.TheVariants.{EndsEarly, Departs}
 use Rattle.page_reader.specs.declared.PageAt.{PageAt}
-use Rattle.page_reader.specs.declared.PageRead.{PageRead}
-use Rattle.page_reader.specs.declared.PageRead.TheVariants.{PageStop}
 use Rattle.page_reader.proofs.Places.{then_stops}
 use Rattle.tree.specs.Tree.{page, Gap, empty, under, Entries, end, entry, items, items_under}
 use Rattle.tree.specs.Record.{Spelt}
@@ -33,8 +32,6 @@ use Rattle.index.specs.Slot.{slots, slots_under, slots_from, bare, filled, lawfu
 use Rattle.index.specs.Chain.{Chain, labels_on, chain_if, chains, chains_under, chains_from, LabelsAt, ChainWords, ChainsAt}
 use Rattle.index.specs.Walk.{DepthWord, HoldsWords, ChainNoted, Left, holding, Moved, PartWalked, PageSays, EntriesSay, PageTaken, Entered, Counted, WalkSays}
 use Rattle.index.specs.declared.walk.WalkState.{WalkState}
-use Rattle.index.specs.declared.walk.Walked.{Walked}
-use Rattle.index.specs.declared.walk.Walked.TheVariants.{Whole, Stopped}
 use Rattle.page_reader.proofs.Spelling.{page_count}
 use Rattle.index.proofs.Moves.{moved_seq}
 use Rattle.index.proofs.Lengths.{from_entries, none_read, tree_page_ends, tree_page_part, tree_page_count, tree_page_first, link_some, link_page}
@@ -53,11 +50,11 @@ unfolding read_tree
 tree_end n e = rw e
 
 module _ (s : List ℕ) (level link above : ℕ) (index row last : List ℕ) (st : WalkState) where
-  pub too_deep : 129 ≤ level → st.next < length s → PageSays s index row last level link above st (Stopped Departs) index row last
+  pub too_deep : 129 ≤ level → st.next < length s → PageSays s index row last level link above st (Err Departs) index row last
   unfolding PageSays
   too_deep h k labels number leads = rw (drop-cons s st.next 0 k) (tree_deep (deepest - level) (drop (suc st.next) s) (get_or s st.next 0) (omega arith))
 
-  pub deep_end : 129 ≤ level → length s ≤ st.next → PageSays s index row last level link above st (Stopped EndsEarly) index row last
+  pub deep_end : 129 ≤ level → length s ≤ st.next → PageSays s index row last level link above st (Err EndsEarly) index row last
   unfolding PageSays
   deep_end h k labels number leads = rw (drop_of_length-le s k) (tree_end (deepest - level) (omega arith))
 
@@ -70,8 +67,8 @@ tree_page : (level : ℕ) (l : List ℕ) → level < 129 → read_tree (deepest 
 unfolding read_tree
 tree_page level l h = let e : deepest - level ≡ suc (deepest - suc level) = omega arith in rw e
 
-pub page_stops : (s : List ℕ) (level link above : ℕ) (index row last : List ℕ) (st : WalkState) (got : PageRead) (stop : Stop) → level < 129 → PageIs s st.next got → got ≡ PageStop stop
-    → PageSays s index row last level link above st (Stopped stop) index row last
+pub page_stops : (s : List ℕ) (level link above : ℕ) (index row last : List ℕ) (st : WalkState) (got : Result PageAt Stop) (stop : Stop) → level < 129 → PageIs s st.next got → got ≡ Err stop
+    → PageSays s index row last level link above st (Err stop) index row last
 unfolding PageSays
 page_stops s level link above index row last st got stop h w q labels number leads = tree_page level (drop st.next s) h ∙ then_stops _ stop (page_is s st.next w q)
 
@@ -209,14 +206,14 @@ module _ (s index row last : List ℕ) (level link above : ℕ) (st st₁ : Walk
           }
 
     -- what is under its first gap, and its entries with what is under their gaps
-    page_done : 0 < p.count → (index₁ row₁ last₁ : List ℕ) (st₃ : WalkState) (r : Walked) (index' row' last' row'' : List ℕ)
-        → GapSays s index row last level p.left st₂ (Whole st₃) index₁ row₁ last₁
+    page_done : 0 < p.count → (index₁ row₁ last₁ : List ℕ) (st₃ : WalkState) (r : Result WalkState Stop) (index' row' last' row'' : List ℕ)
+        → GapSays s index row last level p.left st₂ (Ok st₃) index₁ row₁ last₁
         → EntriesSay s index₁ row₁ last₁ level st.next p.first p.count st₃ r index' row' last'
         → Left row' st₁.chains st.next link above p.end st₁.count r row''
         → PartWalked s index row last 0 (read_tree (deepest - level) (drop st.next s)) (slots level st.next) (chains st.count st.next labels)
         prefixes_right (λ t. holding link t && filled t) st r index' row'' last'
     unfolding EntriesSay filled prefixes_right
-    page_done some index₁ row₁ last₁ st₃ (Whole st') index' row' last' row'' gap rest noted =
+    page_done some index₁ row₁ last₁ st₃ (Ok st') index' row' last' row'' gap rest noted =
         let o = rest here.row.entries p.past here.row.reads in
         let g : Gap Spelt (List ℕ) = gap.what in
         let es : Entries Spelt (List ℕ) = o.what in
@@ -240,13 +237,13 @@ module _ (s index row last : List ℕ) (level link above : ℕ) (st st₁ : Walk
           moved = rw pages (chain_moved g es left entries st' index' row' last' row'' later noted (rw parts (moved_seq gap.moved o.moved))
               (omega (arith, ap length pages, few_chains_lem st.count st.next labels (page g es))));
         }
-    page_done some index₁ row₁ last₁ st₃ (Stopped stop) index' row' last' row'' gap rest noted =
+    page_done some index₁ row₁ last₁ st₃ (Err stop) index' row' last' row'' gap rest noted =
         let start : st₂.next ≡ p.end = entered.next ∙ taken.next in
         tree_page level (drop st.next s) low ∙ rw (here.whole.reads, ← start, gap.reads) (then_stops _ stop (rest here.row.entries p.past here.row.reads))
 
   page_stopped : (st₂ : WalkState) → st₂.next ≡ st₁.next → (index₁ row₁ last₁ : List ℕ) (stop : Stop) (index' row' last' : List ℕ)
-      → GapSays s index row last level p.left st₂ (Stopped stop) index₁ row₁ last₁
-      → PageSays s index row last level link above st (Stopped stop) index' row' last'
+      → GapSays s index row last level p.left st₂ (Err stop) index₁ row₁ last₁
+      → PageSays s index row last level link above st (Err stop) index' row' last'
   unfolding PageSays
   page_stopped st₂ e index₁ row₁ last₁ stop index' row' last' gap labels number leads =
       tree_page level (drop st.next s) low ∙ rw (here.whole.reads, ← taken.next, ← e) (then_stops _ stop gap)
@@ -256,7 +253,7 @@ module _ (s index row last : List ℕ) (level link above : ℕ) (st st₁ : Walk
 
   module _ (st₂ : WalkState) (entered : Entered st₁ st₂) (some : p.count ≡ 0 → ⊥) where
     -- nothing is in the gap before its entries
-    pub page_none : p.left ≡ 0 → (r : Walked) (index' row' last' row'' : List ℕ)
+    pub page_none : p.left ≡ 0 → (r : Result WalkState Stop) (index' row' last' row'' : List ℕ)
         → EntriesSay s index row last level st.next p.first p.count st₂ r index' row' last'
         → Left row' st₁.chains st.next link above p.end st₁.count r row'' → PageSays s index row last level link above st r index' row'' last'
     unfolding PageSays
@@ -265,23 +262,23 @@ module _ (s index row last : List ℕ) (level link above : ℕ) (st st₁ : Walk
         (gap_none s index row last level p.left st₂ h (rw (entered.next, taken.next) here.whole.within)) rest noted
 
     -- a page is in that gap
-    pub page_left : (p.left ≡ 0 → ⊥) → (index₁ row₁ last₁ : List ℕ) (got : Walked) (st₃ : WalkState)
-        → PageSays s index row last (level + 1) p.left 0 st₂ got index₁ row₁ last₁ → got ≡ Whole st₃ → (r : Walked) (index' row' last' row'' : List ℕ)
+    pub page_left : (p.left ≡ 0 → ⊥) → (index₁ row₁ last₁ : List ℕ) (got : Result WalkState Stop) (st₃ : WalkState)
+        → PageSays s index row last (level + 1) p.left 0 st₂ got index₁ row₁ last₁ → got ≡ Ok st₃ → (r : Result WalkState Stop) (index' row' last' row'' : List ℕ)
         → EntriesSay s index₁ row₁ last₁ level st.next p.first p.count st₃ r index' row' last'
         → Left row' st₁.chains st.next link above p.end st₁.count r row'' → PageSays s index row last level link above st r index' row'' last'
     unfolding PageSays
     page_left h index₁ row₁ last₁ got st₃ w q r index' row' last' row'' rest noted labels number leads =
         page_done st₂ entered labels number leads (omega (arith, some)) index₁ row₁ last₁ st₃ r index' row' last' row''
-        (gap_page s index row last level p.left st₂ (Whole st₃) index₁ row₁ last₁ h (left_within h) (says_is s index row last (level + 1) p.left 0 st₂ index₁ row₁ last₁ w q))
+        (gap_page s index row last level p.left st₂ (Ok st₃) index₁ row₁ last₁ h (left_within h) (says_is s index row last (level + 1) p.left 0 st₂ index₁ row₁ last₁ w q))
         rest noted
 
     -- the walk over that page stopped
-    pub left_stopped : (p.left ≡ 0 → ⊥) → (index₁ row₁ last₁ : List ℕ) (got : Walked) (stop : Stop)
-        → PageSays s index row last (level + 1) p.left 0 st₂ got index₁ row₁ last₁ → got ≡ Stopped stop
-        → PageSays s index row last level link above st (Stopped stop) index₁ row₁ last₁
+    pub left_stopped : (p.left ≡ 0 → ⊥) → (index₁ row₁ last₁ : List ℕ) (got : Result WalkState Stop) (stop : Stop)
+        → PageSays s index row last (level + 1) p.left 0 st₂ got index₁ row₁ last₁ → got ≡ Err stop
+        → PageSays s index row last level link above st (Err stop) index₁ row₁ last₁
     left_stopped h index₁ row₁ last₁ got stop w q =
         page_stopped st₂ entered.next index₁ row₁ last₁ stop index₁ row₁ last₁
-        (gap_page s index row last level p.left st₂ (Stopped stop) index₁ row₁ last₁ h (left_within h) (says_is s index row last (level + 1) p.left 0 st₂ index₁ row₁ last₁ w q))
+        (gap_page s index row last level p.left st₂ (Err stop) index₁ row₁ last₁ h (left_within h) (says_is s index row last (level + 1) p.left 0 st₂ index₁ row₁ last₁ w q))
 
   -- ---- a page without entries
   module _ (none-there : p.count ≡ 0) where
@@ -289,7 +286,7 @@ module _ (s index row last : List ℕ) (level link above : ℕ) (st st₁ : Walk
     no_entries = none_read here.row.entries (page_count slice here ∙ none-there)
 
     -- and without a left link
-    pub page_bare : p.left ≡ 0 → PageSays s index row last level link above st (Whole st₁) index row last
+    pub page_bare : p.left ≡ 0 → PageSays s index row last level link above st (Ok st₁) index row last
     unfolding PageSays slots chains labels_on chain_if prefixes_right filled read_under read_from link_at link_of raw_entries
     page_bare h labels number leads =
         let nothing : link_at s p.left ≡ none = rw h in
@@ -375,10 +372,10 @@ module _ (s index row last : List ℕ) (level link above : ℕ) (st st₁ : Walk
         ∙ rw (here.whole.reads, link_some s p.left linked, ← taken.next, ← add-one level) (then_stops _ stop (then_stops _ stop q))
 
     pub page_on : (p.left ≡ 0 → ⊥) → (to pages : ℕ) → to ≡ cond (eqb link 0) p.left link → pages ≡ cond (eqb link 0) 0 (above + 1)
-        → (r : Walked) (index' row' last' : List ℕ) → PageSays s index row last (level + 1) to pages st₁ r index' row' last'
+        → (r : Result WalkState Stop) (index' row' last' : List ℕ) → PageSays s index row last (level + 1) to pages st₁ r index' row' last'
         → PageSays s index row last level link above st r index' row' last'
     unfolding PageSays
-    page_on linked to pages e n (Whole st') index' row' last' w labels number leads =
+    page_on linked to pages e n (Ok st') index' row' last' w labels number leads =
         let (long, led, positive) = labels_on_lem linked to pages e n labels number leads in
         let o = w (labels ++ (digest linked (page empty end) ∷ [])) long led in
         let t : SpeltTree = o.what in
@@ -390,7 +387,7 @@ module _ (s index row last : List ℕ) (level link above : ℕ) (st st₁ : Walk
           moved = rw (on_slots linked t, on_chains linked t labels, on_prefixes linked t, on_filled linked t to positive)
               (moved_seq (page_moved (under (digest linked t) t) end (link_of_lem linked t) (entries_of_lem linked t)) o.moved);
         }
-    page_on linked to pages e n (Stopped stop) index' row' last' w labels number leads =
+    page_on linked to pages e n (Err stop) index' row' last' w labels number leads =
         let (long, led, positive) = labels_on_lem linked to pages e n labels number leads in
         on_stops linked stop (w (labels ++ (digest linked (page empty end) ∷ [])) long led)
 
@@ -399,8 +396,8 @@ least_of true x y n h k = h
 least_of false x y n h k = k
 
 -- how far the walk over a page under a gap goes
-pub page_far : (s index row last : List ℕ) (level link : ℕ) (st : WalkState) (index' row' last' : List ℕ) (got : Walked) (st' : WalkState)
-    → (link ≡ 0 → ⊥) → link + 32 ≤ length s → PageSays s index row last level link 0 st got index' row' last' → got ≡ Whole st'
+pub page_far : (s index row last : List ℕ) (level link : ℕ) (st : WalkState) (index' row' last' : List ℕ) (got : Result WalkState Stop) (st' : WalkState)
+    → (link ≡ 0 → ⊥) → link + 32 ≤ length s → PageSays s index row last level link 0 st got index' row' last' → got ≡ Ok st'
     → (st.next ≤ st'.next) × (st'.next ≤ length s) × (st'.count + st.next ≤ st.count + st'.next) × (st'.chains + st.next ≤ st.chains + st'.next)
     × (st.count ≤ st'.count) × (st.chains ≤ st'.chains)
 unfolding PageSays LabelsAt
@@ -409,14 +406,14 @@ page_far s index row last level link st index' row' last' got st' f fits w q =
     (o.moved.ahead, o.moved.within, omega (arith, o.moved.count, o.few), omega (arith, o.moved.chain_count, o.few_chains), omega (arith, o.moved.count), omega (arith, o.moved.chain_count))
 
 -- what was counted before the entries of a page can be taken from what is counted after them
-pub entries_counted : (s index row last : List ℕ) (level at first n : ℕ) (st : WalkState) (index' row' last' : List ℕ) (r : Walked) (es : List RawEntry) (past k from : ℕ)
+pub entries_counted : (s index row last : List ℕ) (level at first n : ℕ) (st : WalkState) (index' row' last' : List ℕ) (r : Result WalkState Stop) (es : List RawEntry) (past k from : ℕ)
     → times n entry_reader (drop first s) ≡ read es (drop past s) → from ≤ st.count → k < st.chains
     → EntriesSay s index row last level at first n st r index' row' last' → Counted k from r
 unfolding EntriesSay
-entries_counted s index row last level at first n st index' row' last' (Whole st') es past k from q h g w =
+entries_counted s index row last level at first n st index' row' last' (Ok st') es past k from q h g w =
     let o = w es past q in
     (omega (arith, o.moved.count), omega (arith, o.moved.chain_count))
-entries_counted s index row last level at first n st index' row' last' (Stopped stop) es past k from q h g w = tt
+entries_counted s index row last level at first n st index' row' last' (Err stop) es past k from q h g w = tt
 
 -- ---- the whole register
 nothing_indexed : (index : List ℕ) → HoldsWords DepthWord index []
@@ -426,9 +423,9 @@ nothing_indexed index i h k = absurd (not-suc-le-zero h)
 abbrev start_state : WalkState
 start_state = record { next = 0; count = 0; chains = 0; last = 0; prefixes = true; lawful = true; rising = true; filled = true }
 
-pub walk_says : (s index row last : List ℕ) (r : Walked) (index' row' last' : List ℕ) → PageSays s index row last 0 0 0 start_state r index' row' last' → WalkSays s r index' row'
+pub walk_says : (s index row last : List ℕ) (r : Result WalkState Stop) (index' row' last' : List ℕ) → PageSays s index row last 0 0 0 start_state r index' row' last' → WalkSays s r index' row'
 unfolding PageSays LabelsAt
-walk_says s index row last (Whole st) index' row' last' w =
+walk_says s index row last (Ok st) index' row' last' w =
     let o = w [] refl (refl, refl) in
     record {
       root = o.what;
@@ -443,4 +440,4 @@ walk_says s index row last (Whole st) index' row' last' w =
       indexed = o.moved.indexed [] refl (nothing_indexed index);
       chained = o.moved.chained;
     }
-walk_says s index row last (Stopped stop) index' row' last' w = w [] refl (refl, refl)
+walk_says s index row last (Err stop) index' row' last' w = w [] refl (refl, refl)

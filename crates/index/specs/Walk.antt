@@ -1,5 +1,6 @@
 -- What the walk over a register's pages says.
-use Rattle.std.specs.Prelude.{ℕ, zero, suc, ◌+◌, ◌-◌, ◌*◌, ◌≤◌, ◌<◌, ◌≡◌, Bool, true, false, not, ◌&&◌, List, [], ◌∷◌, ◌++◌, length, drop, get_or, set}
+use Rattle.page_reader.specs.declared.Stop.{Stop}
+use Rattle.std.specs.Prelude.{ℕ, zero, suc, ◌+◌, ◌-◌, ◌*◌, ◌≤◌, ◌<◌, ◌≡◌, Bool, true, false, not, ◌&&◌, List, [], ◌∷◌, ◌++◌, length, drop, get_or, set, Result, Ok, Err}
 use Rattle.limits.specs.Limits.{deepest, most}
 use Rattle.key.specs.Key.{lawful}
 use Rattle.key.specs.Layer.{layer_of}
@@ -15,8 +16,6 @@ use Rattle.word.specs.Word.{page_in, entry_in, layer_in, from_second, RecordWord
 use Rattle.index.specs.Slot.{Slot, slots, slots_from, key_of, lawful_slots, rising_after, last_after, bare, filled, filled_from}
 use Rattle.index.specs.Chain.{Chain, chains, chains_from, LabelsAt, ChainsAt}
 use Rattle.index.specs.declared.walk.WalkState.{WalkState}
-use Rattle.index.specs.declared.walk.Walked.{Walked}
-use Rattle.index.specs.declared.walk.Walked.TheVariants.{Whole, Stopped}
 
 -- ---- the index: a word for each record
 -- The word of a slot, as the walk notes it and as it is when the layers are known. A register with a key that is not lawful is refused before.
@@ -69,14 +68,14 @@ pub record ChainNoted (row : List ℕ) (k at link above to from records below : 
   pub full : length row ≤ 2 * k + 1 → row' ≡ row
 
 -- A chain is noted when the walk has gone through all that is below it.
-abbrev pub Left : List ℕ → ℕ → ℕ → ℕ → ℕ → ℕ → ℕ → Walked → List ℕ → Type 0
-Left row k at link above to from (Whole st) row' = ChainNoted row k at link above to from (st.count - from) (st.chains - (k + 1)) row'
-Left row k at link above to from (Stopped stop) row' = row' ≡ row
+abbrev pub Left : List ℕ → ℕ → ℕ → ℕ → ℕ → ℕ → ℕ → Result WalkState Stop → List ℕ → Type 0
+Left row k at link above to from (Ok st) row' = ChainNoted row k at link above to from (st.count - from) (st.chains - (k + 1)) row'
+Left row k at link above to from (Err stop) row' = row' ≡ row
 
 -- What is counted when the walk has gone through can be taken from what is counted now.
-abbrev pub Counted : ℕ → ℕ → Walked → Type 0
-Counted k from (Whole st) = (from ≤ st.count) × (k < st.chains)
-Counted k from (Stopped stop) = Unit {0}
+abbrev pub Counted : ℕ → ℕ → Result WalkState Stop → Type 0
+Counted k from (Ok st) = (from ≤ st.count) × (k < st.chains)
+Counted k from (Err stop) = Unit {0}
 
 -- ---- one step of the walk
 -- From the state st, the index, the row of chains and the key of the record before, the walk passed these slots and chains, and the pages it
@@ -104,20 +103,20 @@ pub record WalkedWhole {T : Type 0} (s index row last : List ℕ) (slack : ℕ) 
   pub few_chains : length (chainsOf what) + st.next ≤ st'.next
   pub moved : Moved s index row last (slots_of what) (chainsOf what) (prefixes what) (fill what) st st' index' row' last'
 
-abbrev pub PartWalked : {T : Type 0} → List ℕ → List ℕ → List ℕ → List ℕ → ℕ → Read T → (T → List Slot) → (T → List Chain) → (T → Bool) → (T → Bool) → WalkState → Walked → List ℕ → List ℕ → List ℕ → Type 0
-PartWalked s index row last slack p slots_of chainsOf prefixes fill st (Whole st') index' row' last' = WalkedWhole s index row last slack p slots_of chainsOf prefixes fill st st' index' row' last'
-PartWalked s index row last slack p slots_of chainsOf prefixes fill st (Stopped stop) index' row' last' = p ≡ read_stop stop
+abbrev pub PartWalked : {T : Type 0} → List ℕ → List ℕ → List ℕ → List ℕ → ℕ → Read T → (T → List Slot) → (T → List Chain) → (T → Bool) → (T → Bool) → WalkState → Result WalkState Stop → List ℕ → List ℕ → List ℕ → Type 0
+PartWalked s index row last slack p slots_of chainsOf prefixes fill st (Ok st') index' row' last' = WalkedWhole s index row last slack p slots_of chainsOf prefixes fill st st' index' row' last'
+PartWalked s index row last slack p slots_of chainsOf prefixes fill st (Err stop) index' row' last' = p ≡ read_stop stop
 
 -- The walk over the page at st.next, which stands `level` deep, and over all pages below it. The link at `link` leads to the first of the
 -- chain that the page belongs to, and `above` pages of it have no entries.
-unfoldable pub PageSays : List ℕ → List ℕ → List ℕ → List ℕ → ℕ → ℕ → ℕ → WalkState → Walked → List ℕ → List ℕ → List ℕ → Type 0
+unfoldable pub PageSays : List ℕ → List ℕ → List ℕ → List ℕ → ℕ → ℕ → ℕ → WalkState → Result WalkState Stop → List ℕ → List ℕ → List ℕ → Type 0
 PageSays s index row last level link above st r index' row' last' =
     (labels : List (List ℕ)) → length labels - 1 ≡ above → LabelsAt s link (st.next - 47 * above) labels st.next
     → PartWalked s index row last 0 (read_tree (deepest - level) (drop st.next s)) (slots level st.next) (chains st.count st.next labels)
     prefixes_right (λ t. holding link t && filled t) st r index' row' last'
 
 -- The walk over the n entries from `first` on in the page at `pg`, and over all pages below them.
-unfoldable pub EntriesSay : List ℕ → List ℕ → List ℕ → List ℕ → ℕ → ℕ → ℕ → ℕ → WalkState → Walked → List ℕ → List ℕ → List ℕ → Type 0
+unfoldable pub EntriesSay : List ℕ → List ℕ → List ℕ → List ℕ → ℕ → ℕ → ℕ → ℕ → WalkState → Result WalkState Stop → List ℕ → List ℕ → List ℕ → Type 0
 EntriesSay s index row last level pg first n st r index' row' last' =
     (es : List RawEntry) (past : ℕ) → times n entry_at (drop first s) ≡ read es (drop past s)
     → PartWalked s index row last n (read_from (read_tree (deepest - suc level)) es (drop st.next s)) (slots_from level pg first st.next [])
@@ -165,6 +164,6 @@ pub record Walks (s index row : List ℕ) (st : WalkState) : Type 0 where
   pub indexed : HoldsWords DepthWord index (slots 0 0 root)
   pub chained : st.count ≤ most → ChainsAt s row 0 (chains 0 0 [] root)
 
-abbrev pub WalkSays : List ℕ → Walked → List ℕ → List ℕ → Type 0
-WalkSays s (Whole st) index row = Walks s index row st
-WalkSays s (Stopped stop) index row = read_tree deepest s ≡ read_stop stop
+abbrev pub WalkSays : List ℕ → Result WalkState Stop → List ℕ → List ℕ → Type 0
+WalkSays s (Ok st) index row = Walks s index row st
+WalkSays s (Err stop) index row = read_tree deepest s ≡ read_stop stop

@@ -7,7 +7,7 @@ ghost use Rattle.index.specs.Walk.{page_holds, Taken, PageTaken, Entered, Counte
 use crate::words::{note, note_chain};
 use limits::{DEEPEST, LONGEST_KEY};
 use page_keys::{extend_key, key_is_lawful, key_rises, prefix_fits, remember};
-use page_reader::{EntryRead, PageAt, PageRead, Stop, locate_entry, read_page};
+use page_reader::{PageAt, Stop, locate_entry, read_page};
 
 // Where the walk stands: the next byte, the records and the chains so far, the length of the last key, and whether each test held so far.
 #[derive(Clone, Copy)]
@@ -20,12 +20,6 @@ pub struct WalkState {
     pub lawful: bool,
     pub rising: bool,
     pub filled: bool,
-}
-
-#[derive(Clone, Copy)]
-pub enum Walked {
-    Whole(WalkState),
-    Stopped(Stop),
 }
 
 // Both tests hold.
@@ -146,20 +140,20 @@ fn leave(
     above: usize,
     end: usize,
     from: usize,
-    walked: Walked,
-) -> Walked
+    walked: Result<WalkState, Stop>,
+) -> Result<WalkState, Stop>
     requires { (page < 2 ^ 24) × (link < 2 ^ 24) × (above < 256) × (end < 2 ^ 24) × (k < 2 ^ 32) × Counted k from walked }
     ensures same { result ≡ walked }
     ensures noted { Left row.old k page link above end from walked row.new }
 {
     match walked {
-        Walked::Whole(st) => {
+        Ok(st) => {
             let records = st.count - from;
             let below = st.chains - (k + 1);
             note_chain(row, k, page, link, above, end, from, records, below);
-            Walked::Whole(st)
+            Ok(st)
         }
-        Walked::Stopped(stop) => Walked::Stopped(stop),
+        Err(stop) => Err(stop),
     }
 }
 
@@ -175,49 +169,41 @@ fn walk_page(
     link: usize,
     above: usize,
     st: WalkState,
-) -> Walked
+) -> Result<WalkState, Stop>
     requires { (length s.now < 2 ^ 24) × Bytes s.now × (length last.old ≡ longest_key) × (st.next ≤ length s.now) × (st.count ≤ st.next) × (st.chains ≤ st.next) × (level ≤ deepest) × (above ≤ level) × (link ≤ length s.now) }
     ensures { PageSays s.now index.old row.old last.old level link above st result index.new row.new last.new }
 {
     let at = st.next;
     if DEEPEST <= level {
         if at < s.len() {
-            return Walked::Stopped(Stop::Departs);
+            return Err(Stop::Departs);
         }
-        return Walked::Stopped(Stop::EndsEarly);
+        return Err(Stop::EndsEarly);
     }
-    match read_page(s, at) {
-        PageRead::Page(p) => {
-            let n = p.count;
-            let first = p.first;
-            let left = p.left;
-            let end = p.end;
-            let cur = take_page(link, p, st);
-            if n == 0 {
-                if left == 0 {
-                    return Walked::Whole(cur);
-                }
-                let to = chain_link(link, left);
-                let pages = chain_above(link, above);
-                return walk_page(s, index, row, last, level + 1, to, pages, cur);
-            }
-            let from = cur.count;
-            let k = cur.chains;
-            let entered = enter(cur);
-            if left == 0 {
-                let walked = walk_entries(s, index, row, last, level, at, first, n, entered);
-                return leave(row, k, at, link, above, end, from, walked);
-            }
-            match walk_page(s, index, row, last, level + 1, left, 0, entered) {
-                Walked::Whole(next) => {
-                    let walked = walk_entries(s, index, row, last, level, at, first, n, next);
-                    leave(row, k, at, link, above, end, from, walked)
-                }
-                Walked::Stopped(stop) => Walked::Stopped(stop),
-            }
+    let p = read_page(s, at)?;
+    let n = p.count;
+    let first = p.first;
+    let left = p.left;
+    let end = p.end;
+    let cur = take_page(link, p, st);
+    if n == 0 {
+        if left == 0 {
+            return Ok(cur);
         }
-        PageRead::PageStop(stop) => Walked::Stopped(stop),
+        let to = chain_link(link, left);
+        let pages = chain_above(link, above);
+        return walk_page(s, index, row, last, level + 1, to, pages, cur);
     }
+    let from = cur.count;
+    let k = cur.chains;
+    let entered = enter(cur);
+    if left == 0 {
+        let walked = walk_entries(s, index, row, last, level, at, first, n, entered);
+        return leave(row, k, at, link, above, end, from, walked);
+    }
+    let next = walk_page(s, index, row, last, level + 1, left, 0, entered)?;
+    let walked = walk_entries(s, index, row, last, level, at, first, n, next);
+    leave(row, k, at, link, above, end, from, walked)
 }
 
 // The n entries from first on in the page at the place page, and all pages below them. The page was read whole before, so that its entries
@@ -233,7 +219,7 @@ fn walk_entries(
     first: usize,
     n: usize,
     st: WalkState,
-) -> Walked
+) -> Result<WalkState, Stop>
     requires { (length s.now < 2 ^ 24) × Bytes s.now × (length last.old ≡ longest_key) × (st.next ≤ length s.now) × (st.count + n ≤ st.next) × (st.chains ≤ st.next) × (level < deepest) × (page ≤ length s.now) × (first ≤ length s.now) }
     ensures { EntriesSay s.now index.old row.old last.old level page first n st result index.new row.new last.new }
 {
@@ -241,42 +227,28 @@ fn walk_entries(
     let mut size = 0;
     let mut cur = st;
     let mut at = first;
-    let mut i = 0;
-    while i < n {
-        match locate_entry(s, at) {
-            EntryRead::Entry(e) => {
-                let link = e.link;
-                let shares = e.shares;
-                let remainder = e.remainder;
-                let length = e.size;
-                let fits = prefix_fits(&buffer, size, s, shares, remainder, length);
-                size = extend_key(&mut buffer, size, s, shares, remainder, length);
-                let one = take_record(index, last, &buffer, size, fits, cur, level, page, at);
-                i += 1;
-                at = e.end;
-                if link == 0 {
-                    cur = one;
-                    continue;
-                }
-                match walk_page(s, index, row, last, level + 1, link, 0, one) {
-                    Walked::Whole(next) => {
-                        cur = next;
-                    }
-                    Walked::Stopped(stop) => {
-                        return Walked::Stopped(stop);
-                    }
-                }
-            }
-            EntryRead::EntryStop(stop) => {
-                return Walked::Stopped(stop);
-            }
+    for i in 0..n {
+        let e = locate_entry(s, at)?;
+        let link = e.link;
+        let shares = e.shares;
+        let remainder = e.remainder;
+        let length = e.size;
+        let fits = prefix_fits(&buffer, size, s, shares, remainder, length);
+        size = extend_key(&mut buffer, size, s, shares, remainder, length);
+        let one = take_record(index, last, &buffer, size, fits, cur, level, page, at);
+        at = e.end;
+        if link == 0 {
+            cur = one;
+            continue;
         }
+        let next = walk_page(s, index, row, last, level + 1, link, 0, one)?;
+        cur = next;
     }
-    Walked::Whole(cur)
+    Ok(cur)
 }
 
 // The walk over a whole register: the tests, and the rows of its records and of its chains, as many as there is room for.
-pub fn walk(s: &[u8], index: &mut [u64], row: &mut [u64]) -> Walked
+pub fn walk(s: &[u8], index: &mut [u64], row: &mut [u64]) -> Result<WalkState, Stop>
     requires { length s.now < 2 ^ 24 }
     ensures { WalkSays s.now result index.new row.new }
 {

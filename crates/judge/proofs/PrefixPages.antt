@@ -1,4 +1,5 @@
 -- The prefix lengths of one page.
+use Rattle.std.specs.Prelude.{Result, Ok, Err}
 use Prim.Native.Nat.{ℕ, ◌≤◌}
 use mathlib.Core.Path.{◌≡◌, ap, subst, ◌∙◌}
 use mathlib.Core.Bool.{Bool, true}
@@ -10,20 +11,18 @@ use Rattle.page.specs.Page.{RawEntry, RawPage, entry, page}
 use Rattle.page_reader.specs.Place.{Reads, PageHere, PageIs}
 use Rattle.page_reader.specs.declared.Stop.{Stop}
 use Rattle.page_reader.specs.declared.PageAt.{PageAt}
-use Rattle.page_reader.specs.declared.PageRead.{PageRead}
-use Rattle.page_reader.specs.declared.PageRead.TheVariants.{Page, PageStop}
 use Rattle.tree.specs.OnePage.{prefixes_of}
 use Rattle.index.proofs.Standing.{same_read, read_not_stopped}
 use Rattle.judge.specs.Prefixes.{PagePrefixes}
 
-module _ (s : List ℕ) (w at : ℕ) (place : at ≡ page_in w) (got : PageRead) (is : PageIs s at got) where
-  pub page_starts : (p : PageAt) → got ≡ Page p → p.first ≤ length s
+module _ (s : List ℕ) (w at : ℕ) (place : at ≡ page_in w) (got : Result PageAt Stop) (is : PageIs s at got) where
+  pub page_starts : (p : PageAt) → got ≡ Ok p → p.first ≤ length s
   page_starts p e = let here : PageHere s at p = subst (PageIs s at) e is in here.start.within
 
   at_place : (raw : RawPage) (to : ℕ) → Reads page s (page_in w) raw to → Reads page s at raw to
   at_place raw to reads = rw place reads
 
-  pub page_tested : (p : PageAt) → got ≡ Page p → (r : Bool)
+  pub page_tested : (p : PageAt) → got ≡ Ok p → (r : Bool)
       → ((es : List RawEntry) (past : ℕ) → times p.count entry (drop p.first s) ≡ read es (drop past s) → r ≡ prefixes_of [] es)
       → PagePrefixes s (page_in w) r
   unfolding PagePrefixes
@@ -31,6 +30,6 @@ module _ (s : List ℕ) (w at : ℕ) (place : at ≡ page_in w) (got : PageRead)
       let here : PageHere s at p = subst (PageIs s at) e is in
       says here.row.entries p.past here.row.reads ∙ ap (λ (x : RawPage). prefixes_of [] x.entries) (same_read here.whole (at_place raw to reads))
 
-  pub page_not_there : (stop : Stop) → got ≡ PageStop stop → PagePrefixes s (page_in w) true
+  pub page_not_there : (stop : Stop) → got ≡ Err stop → PagePrefixes s (page_in w) true
   unfolding PagePrefixes
   page_not_there stop e raw to reads = absurd (read_not_stopped (at_place raw to reads) stop (subst (PageIs s at) e is))

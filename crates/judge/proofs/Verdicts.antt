@@ -1,4 +1,5 @@
 -- What the walk and the passes over its rows settle is what the byte string is judged to be.
+use Rattle.std.specs.Prelude.{Result, Ok, Err}
 use Prim.Native.Nat.{ℕ, ◌-◌, ◌*◌, ◌≤◌, ◌<◌}
 use mathlib.Core.Path.{◌≡◌, refl, sym, ap, subst, ◌∙◌}
 use mathlib.Core.Bool.{Bool, true, false, not, ◌&&◌}
@@ -25,8 +26,6 @@ use Rattle.index.specs.Slot.{slots, lawful_slots, level_slots, filled}
 use Rattle.index.specs.Chain.{chains, labels_right, chains_right}
 use Rattle.index.specs.Walk.{holding, Walks, WalkSays}
 use Rattle.index.specs.declared.walk.WalkState.{WalkState}
-use Rattle.index.specs.declared.walk.Walked.{Walked}
-use Rattle.index.specs.declared.walk.Walked.TheVariants.{Whole, Stopped}
 use Rattle.index.proofs.SlotLaws.{slots_lawful, slots_rising, slots_length, slots_items}
 use Rattle.index.proofs.ChainRows.{few_chains_lem}
 use Rattle.index.proofs.Standing.{slot_stands}
@@ -35,7 +34,6 @@ use Rattle.judge.specs.Layers.{Depths, top_of, LayersSay}
 use Rattle.digests.specs.Digests.{ChainsNoted, DigestsSay}
 use Rattle.judge.specs.Prefixes.{RowPrefixes}
 use Rattle.judge.specs.Verdict.{PrefixesSay, RoomFor, RegisterSays}
-use Rattle.judge.specs.declared.Register.TheVariants.{Accepted}
 use Rattle.digests.proofs.ChainReads.{front_chained, back_chained}
 use Rattle.judge.proofs.RightTree.{right_tests}
 use Rattle.judge.proofs.RightChains.{right_chains, prefixes_split, prefix_chains}
@@ -45,7 +43,7 @@ pub too_long : (s : List ℕ) → longest < length s → judge s ≡ refused Too
 unfolding judge
 too_long s h = rw (lt-leb (length s) longest h)
 
-module _ (s index row : List ℕ) (w : Walked) (stop : Stop) (size : length s ≤ longest) (says : WalkSays s w index row) (e : w ≡ Stopped stop) where
+module _ (s index row : List ℕ) (w : Result WalkState Stop) (stop : Stop) (size : length s ≤ longest) (says : WalkSays s w index row) (e : w ≡ Err stop) where
   stops : read_tree deepest s ≡ read_stop stop
   stops = subst (λ v. WalkSays s v index row) e says
 
@@ -57,7 +55,7 @@ module _ (s index row : List ℕ) (w : Walked) (stop : Stop) (size : length s �
   unfolding judge judge_read
   departs_early q = rw (le-leb (length s) longest size, stops, q)
 
-pub walked_whole : (s index row : List ℕ) (w : Walked) (st : WalkState) → WalkSays s w index row → w ≡ Whole st → Walks s index row st
+pub walked_whole : (s index row : List ℕ) (w : Result WalkState Stop) (st : WalkState) → WalkSays s w index row → w ≡ Ok st → Walks s index row st
 walked_whole s index row w st says e = subst (λ v. WalkSays s v index row) e says
 
 -- ---- bytes left
@@ -239,7 +237,7 @@ module _ (s index row : List ℕ) (st : WalkState) (bytes : Bytes s) (size : len
                   unfolding tests due tree.settled
                   wrong_digest h = judged ∙ rw (e₄, five, e₅, six, e₆, seven, e₇, eight, e₈, nine, e₉, ← layer_test, f₉, ten, not-true right h)
 
-                  pub accepted_all : length index' ≡ length index → not right ≡ false → RegisterSays s (Accepted st.count st.chains) index' row
+                  pub accepted_all : length index' ≡ length index → not right ≡ false → RegisterSays s (Ok (st.count, st.chains)) index' row
                   unfolding tests due tree.settled walked_depths
                   accepted_all kept h =
                       let all : judge s ≡ tree.accepted w.root =

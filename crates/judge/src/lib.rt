@@ -15,16 +15,9 @@ use crate::layers::note_layers;
 use crate::prefixes::prefixes_hold;
 use answer::Refusal;
 use digests::digests_hold;
-use index::walk::{WalkState, Walked, walk};
+use index::walk::{WalkState, walk};
 use limits::MOST;
 use page_reader::Stop;
-
-// What a byte string is judged to be: a register of so many records and chains, or refused.
-#[derive(Clone, Copy)]
-pub enum Register {
-    Accepted(usize, usize),
-    Refused(Refusal),
-}
 
 // Whether all prefix lengths are right. The walk may have failed to tell: then the pages are read again, one half of the row after the other.
 // A function that is called in two places has a frame of its own: the buffer of 65,536 bytes is not on the stack while the pages are walked.
@@ -43,52 +36,57 @@ fn prefixes_right(s: &[u8], row: &[u64], st: WalkState) -> bool
 }
 
 // Numbers 4 to 10, in their order, of a register that was walked through.
-fn verdict_of(s: &[u8], index: &mut [u64], row: &[u64], st: WalkState) -> Register
+fn verdict_of(
+    s: &[u8],
+    index: &mut [u64],
+    row: &[u64],
+    st: WalkState,
+) -> Result<(usize, usize), Refusal>
     requires { (length s.now ≤ longest) × RoomFor s.now 1 (length index.old) × RoomFor s.now 2 (length row.now) × Walks s.now index.old row.now st }
     ensures { RegisterSays s.now result index.new row.now }
 {
     if st.next < s.len() {
-        return Register::Refused(Refusal::BytesFollow);
+        return Err(Refusal::BytesFollow);
     }
     if MOST < st.count {
-        return Register::Refused(Refusal::TooManyRecords);
+        return Err(Refusal::TooManyRecords);
     }
     if !prefixes_right(s, row, st) {
-        return Register::Refused(Refusal::WrongPrefix);
+        return Err(Refusal::WrongPrefix);
     }
     if !st.lawful {
-        return Register::Refused(Refusal::UnlawfulKey);
+        return Err(Refusal::UnlawfulKey);
     }
     if !st.rising {
-        return Register::Refused(Refusal::KeysNotRising);
+        return Err(Refusal::KeysNotRising);
     }
     if !st.filled {
-        return Register::Refused(Refusal::WrongTree);
+        return Err(Refusal::WrongTree);
     }
     let count = st.count;
     if !note_layers(s, index, count) {
-        return Register::Refused(Refusal::WrongTree);
+        return Err(Refusal::WrongTree);
     }
     let chains = st.chains;
     if !digests_hold(s, row, chains) {
-        return Register::Refused(Refusal::WrongDigest);
+        return Err(Refusal::WrongDigest);
     }
-    Register::Accepted(count, chains)
+    Ok((count, chains))
 }
 
 // Numbers 1 to 10 of a byte string, and the rows of a register that is accepted.
-pub fn judge(s: &[u8], index: &mut [u64], row: &mut [u64]) -> Register
+pub fn judge(s: &[u8], index: &mut [u64], row: &mut [u64]) -> Result<(usize, usize), Refusal>
     requires { RoomFor s.now 1 (length index.old) × RoomFor s.now 2 (length row.old) }
     ensures { RegisterSays s.now result index.new row.new }
 {
     if limits::LONGEST < s.len() {
-        return Register::Refused(Refusal::TooLong);
+        return Err(Refusal::TooLong);
     }
     match walk(s, index, row) {
-        Walked::Whole(st) => verdict_of(s, index, row, st),
-        Walked::Stopped(stop) => match stop {
-            Stop::EndsEarly => Register::Refused(Refusal::EndsEarly),
-            Stop::Departs => Register::Refused(Refusal::Departs),
+        Ok(st) => verdict_of(s, index, row, st),
+        Err(stop) => match stop {
+            Stop::EndsEarly => Err(Refusal::EndsEarly),
+            Stop::Departs => Err(Refusal::Departs),
         },
     }
 }

@@ -6,7 +6,7 @@ ghost use Rattle.judge.specs.Prefixes.{PagePrefixes, RowPrefixes};
 
 use limits::NUMBERS;
 use page_keys::prefixes_fit;
-use page_reader::{PageRead, read_page};
+use page_reader::read_page;
 use word::page_in;
 
 // Whether the prefix lengths of a chain's page with entries are right, by the chain's first word.
@@ -15,8 +15,8 @@ fn page_prefixes(s: &[u8], word: u64, buffer: &mut [u8]) -> bool
     ensures { PagePrefixes s.now (page_in word) result }
 {
     match read_page(s, page_in(word)) {
-        PageRead::Page(p) => prefixes_fit(s, p.first, p.count, buffer),
-        PageRead::PageStop(_) => true,
+        Ok(p) => prefixes_fit(s, p.first, p.count, buffer),
+        Err(_) => true,
     }
 }
 

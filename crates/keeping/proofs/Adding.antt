@@ -1,4 +1,5 @@
 -- What is written goes on with each page that is taken.
+use Rattle.std.specs.Prelude.{Option, Some, None}
 use Prim.Native.Nat.{ℕ, ◌+◌, ◌≤◌, ◌<◌}
 use mathlib.Core.Path.{◌≡◌, refl, sym, ap, subst, ◌∙◌}
 use mathlib.Core.Bool.{Bool, true, false, false≢true}
@@ -21,8 +22,6 @@ use Rattle.promises.proofs.DifferenceLaws.{among_left, among_right}
 use Rattle.states.proofs.Filing.{among-split}
 use Rattle.filing.specs.Filed.{bytes_at}
 use Rattle.staging.specs.Pages.{page_named}
-use Rattle.keeping.specs.declared.PartAdded.{PartAdded}
-use Rattle.keeping.specs.declared.PartAdded.TheVariants.{End, Unequal}
 use Rattle.keeping.specs.declared.PagePart.{PagePart}
 use Rattle.keeping.specs.declared.Progress.{Progress}
 use Rattle.keeping.specs.Kept.{LabelledPages, ToKeep}
@@ -224,12 +223,12 @@ module _ {s p labels marks : List ℕ} {n : ℕ} {raws : List RawPage} (f : Labe
                 put.put room ∙ rw (taken, w.stands.part, before, concat_snoc u.written b) (front_behind old (concat (λ c. c) u.written) b);
           }
 
-    adds : (out' : List ℕ) (r : ℕ) → length out ≡ length old → AddSays p register g.any g.last t out g.length (End r) out'
+    adds : (out' : List ℕ) (r : ℕ) → length out ≡ length old → AddSays p register g.any g.last t out g.length (Some r) out'
         → KeptSoFar raws p marks n register rootEnd chains words m old (turned i' j' at r t) out'
     adds out' r same (inl (a, e, q, o)) = rw (q, o) (repeats a e)
     adds out' r same (inr (x, put)) = adds_new x out' r same put
 
-    unequal_share : (out' : List ℕ) → AddSays p register g.any g.last t out g.length Unequal out'
+    unequal_share : (out' : List ℕ) → AddSays p register g.any g.last t out g.length None out'
         → DigestShared raws marks n register rootEnd chains words m
     unequal_share out' (a, d, x) =
         let v = u.last a in
@@ -245,7 +244,7 @@ module _ {s p labels marks : List ℕ} {n : ℕ} {raws : List RawPage} (f : Labe
   -- the bound of the length grows with the rows
   stays_low : (g : Progress) → InRows p n m g → (t : PagePart) (b : List ℕ) (i' j' at : ℕ)
       → Turn g.i g.j t b i' j' at → (out out' : List ℕ) (r : ℕ)
-      → AddSays p register g.any g.last t out g.length (End r) out' → InRows p n m (turned i' j' at r t)
+      → AddSays p register g.any g.last t out g.length (Some r) out' → InRows p n m (turned i' j' at r t)
   stays_low g rows t b i' j' at w out out' r (inl (a, e, q, o)) =
       record { pages = w.in_pages; words = w.in_words; begins = w.begins; low = omega (arith, rows.low, w.count) }
   stays_low g rows t b i' j' at w out out' r (inr (x, put)) =
@@ -306,7 +305,7 @@ module _ {s p labels marks : List ℕ} {n : ℕ} {root register : List ℕ} {roo
     abbrev Next : Bool → Type 0
     Next b = (raws : List RawPage) → LabelledPages s p labels n raws → NextIs raws n p register rootEnd chains words m g.i g.j t b
 
-    goes_on_by : (b : Bool) → t.saved ≡ b → Next b → (r : ℕ) → AddSays p register g.any g.last t out g.length (End r) out'
+    goes_on_by : (b : Bool) → t.saved ≡ b → Next b → (r : ℕ) → AddSays p register g.any g.last t out g.length (Some r) out'
         → (g' : Progress) → g' ≡ progress_after g.i g.j g.place t r b
         → StepSays s p labels marks n register rootEnd chains words m g out g' out' g'.shared
     goes_on_by true e x r a g' q =
@@ -328,13 +327,13 @@ module _ {s p labels marks : List ℕ} {n : ℕ} {root register : List ℕ} {roo
               (page_turn f k g.i g.j t rows.pages rows.words e kept (x raws f)) out' r same a,
         )
 
-    pub step_goes_on : (a : PartAdded) → AddSays p register g.any g.last t out g.length a out' → (r : ℕ) → a ≡ End r
+    pub step_goes_on : (a : Option ℕ) → AddSays p register g.any g.last t out g.length a out' → (r : ℕ) → a ≡ Some r
         → (g' : Progress) → g' ≡ progress_after g.i g.j g.place t r t.saved
         → StepSays s p labels marks n register rootEnd chains words m g out g' out' g'.shared
     step_goes_on a says r e =
-        goes_on_by t.saved refl next r (subst (λ (x : PartAdded). AddSays p register g.any g.last t out g.length x out') e says)
+        goes_on_by t.saved refl next r (subst (λ (x : Option ℕ). AddSays p register g.any g.last t out g.length x out') e says)
 
-    shares_by : (b : Bool) → t.saved ≡ b → Next b → AddSays p register g.any g.last t out g.length Unequal out'
+    shares_by : (b : Bool) → t.saved ≡ b → Next b → AddSays p register g.any g.last t out g.length None out'
         → (raws : List RawPage) (old : List ℕ) → LabelledPages s p labels n raws → KeptSoFar raws p marks n register rootEnd chains words m old g out
         → DigestShared raws marks n register rootEnd chains words m
     shares_by true e x a raws old f u =
@@ -344,11 +343,11 @@ module _ {s p labels marks : List ℕ} {n : ℕ} {root register : List ℕ} {roo
         unequal_share f k old g out u t _ _ _ _
         (page_turn f k g.i g.j t rows.pages rows.words e kept (x raws f)) out' a
 
-    pub step_shares : (a : PartAdded) → AddSays p register g.any g.last t out g.length a out' → a ≡ Unequal
+    pub step_shares : (a : Option ℕ) → AddSays p register g.any g.last t out g.length a out' → a ≡ None
         → (raws : List RawPage) (old : List ℕ) → LabelledPages s p labels n raws → KeptSoFar raws p marks n register rootEnd chains words m old g out
         → DigestShared raws marks n register rootEnd chains words m
     step_shares a says e =
-        shares_by t.saved refl next (subst (λ (x : PartAdded). AddSays p register g.any g.last t out g.length x out') e says)
+        shares_by t.saved refl next (subst (λ (x : Option ℕ). AddSays p register g.any g.last t out g.length x out') e says)
 
     places_by : (b : Bool) → t.saved ≡ b → Next b → InString (string_of p register t) t
     places_by true e x = subst (λ (y : List ℕ). InString y t) (sym (in_register p register t e)) (x _ k.filed.1).1.places

@@ -1,4 +1,6 @@
 -- What is written at the start and at the end of the rows.
+use Rattle.keeping.specs.declared.Unkept.TheVariants.{Short, Shared}
+use Rattle.std.specs.Prelude.{Ok, Err}
 use Prim.Native.Nat.{ℕ, ◌+◌, ◌≤◌, ◌<◌}
 use mathlib.Core.Path.{◌≡◌, refl, subst}
 use mathlib.Core.Bool.{true, false, false≢true}
@@ -13,7 +15,6 @@ use Rattle.promises.specs.Promises.{Among}
 use Rattle.promises.proofs.DifferenceLaws.{among_left, among_right}
 use Rattle.states.proofs.Filing.{among-split}
 use Rattle.staging.specs.Pages.{PageWords}
-use Rattle.keeping.specs.declared.KeptLength.TheVariants.{Length, NoRoom, Shared}
 use Rattle.keeping.specs.declared.PagePart.{PagePart}
 use Rattle.keeping.specs.declared.Progress.{Progress}
 use Rattle.keeping.specs.Kept.{LabelledPages, kept_from, sequence_of, SequenceWritten}
@@ -65,7 +66,7 @@ module _ (marks : List ℕ) {s p labels : List ℕ} {n : ℕ} {raws : List RawPa
       (λ y. inr (q.all c y))
 
   pub written_shares : (out out' : List ℕ) → DigestShared raws marks n register rootEnd chains words m → length out' ≡ length out
-      → SequenceWritten kept_all out Shared out'
+      → SequenceWritten kept_all out (Err Shared) out'
   written_shares out out' d e =
       (shares kept_all d.one d.other (taken_among d.one d.one_taken) (taken_among d.other d.other_taken) d.same d.unequal, e)
 
@@ -80,10 +81,10 @@ module _ (marks : List ℕ) {s p labels : List ℕ} {n : ℕ} {raws : List RawPa
     whole : sequence_of kept_all ≡ concat (λ b. b) u.written
     whole = members_sequence u.written kept_all u.rise there all
 
-    pub written_whole : g.length ≤ length out → SequenceWritten kept_all out (Length g.length) out'
+    pub written_whole : g.length ≤ length out → SequenceWritten kept_all out (Ok g.length) out'
     written_whole h =
         (members_apart u.written kept_all u.rise there all, rw whole u.size, rw whole (u.output (omega (arith, u.size))))
 
-    pub written_short : length out < g.length → length out' ≡ length out → SequenceWritten kept_all out NoRoom out'
+    pub written_short : length out < g.length → length out' ≡ length out → SequenceWritten kept_all out (Err Short) out'
     written_short h e =
         (members_apart u.written kept_all u.rise there all, rw whole (omega (arith, u.size)), e)

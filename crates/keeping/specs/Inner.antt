@@ -1,5 +1,5 @@
 -- What contracts inside this crate cite, and no public contract does.
-use Rattle.std.specs.Prelude.{ℕ, ◌+◌, ◌-◌, ◌*◌, ◌^◌, ◌≤◌, ◌<◌, ◌≡◌, Bool, true, false, cond, ◌⊎◌, List, [], ◌∷◌, ◌++◌, map, length, take, drop, get_or}
+use Rattle.std.specs.Prelude.{ℕ, ◌+◌, ◌-◌, ◌*◌, ◌^◌, ◌≤◌, ◌<◌, ◌≡◌, Bool, true, false, cond, ◌⊎◌, List, [], ◌∷◌, ◌++◌, map, length, take, drop, get_or, Option, Some, None}
 use Rattle.bytestring.specs.Bytes.{front}
 use Rattle.fips180.specs.Hash.{sha256}
 use Rattle.key.specs.Key.{less}
@@ -11,8 +11,6 @@ use Rattle.states.specs.Pages.{sequence, by_digest}
 use Rattle.filing.specs.Filed.{bytes_at}
 use Rattle.staging.specs.Pages.{page_named}
 use Rattle.keeping.specs.Kept.{LabelledPages}
-use Rattle.keeping.specs.declared.PartAdded.{PartAdded}
-use Rattle.keeping.specs.declared.PartAdded.TheVariants.{End, Unequal}
 use Rattle.keeping.specs.declared.PagePart.{PagePart}
 use Rattle.keeping.specs.declared.Progress.{Progress}
 
@@ -58,11 +56,11 @@ pub record PutBehind (bytes out : List ℕ) (at : ℕ) (out' : List ℕ) (r : �
   pub put : at + length bytes ≤ length out → out' ≡ front (take at out ++ bytes) out
 
 -- Where the last page written has the same digest, it must be the same page, and nothing is written; any other page is.
-abbrev pub AddSays : List ℕ → List ℕ → Bool → PagePart → PagePart → List ℕ → ℕ → PartAdded → List ℕ → Type 0
-AddSays p register any last t out at (End r) out' =
+abbrev pub AddSays : List ℕ → List ℕ → Bool → PagePart → PagePart → List ℕ → ℕ → Option ℕ → List ℕ → Type 0
+AddSays p register any last t out at (Some r) out' =
     ((any ≡ true) × (part_of (string_of p register t) t ≡ part_of (string_of p register last) last) × (r ≡ at) × (out' ≡ out))
     ⊎ ((any ≡ true → t.digest ≡ last.digest → ⊥) × PutBehind (part_of (string_of p register t) t) out at out' r)
-AddSays p register any last t out at Unequal out' =
+AddSays p register any last t out at None out' =
     (any ≡ true) × (t.digest ≡ last.digest) × (part_of (string_of p register t) t ≡ part_of (string_of p register last) last → ⊥)
 
 -- ---- the two rows

@@ -1,5 +1,7 @@
 -- The pages that are kept of filed pages, and those of a register to be saved, written in one sequence.
-use Rattle.std.specs.Prelude.{ℕ, suc, ◌^◌, ◌≤◌, ◌<◌, ◌≡◌, true, false, cond, List, [], ◌∷◌, length, get_or, eqb}
+use Rattle.keeping.specs.declared.Unkept.{Unkept}
+use Rattle.keeping.specs.declared.Unkept.TheVariants.{Short, Shared}
+use Rattle.std.specs.Prelude.{ℕ, suc, ◌^◌, ◌≤◌, ◌<◌, ◌≡◌, true, false, cond, List, [], ◌∷◌, length, get_or, eqb, Result, Ok, Err}
 use Rattle.bytestring.specs.Bytes.{front}
 use Rattle.limits.specs.Limits.{longest}
 use Rattle.fips180.specs.Hash.{sha256}
@@ -11,8 +13,6 @@ use Rattle.states.specs.Pages.{sequence, filed, all_apart}
 use Rattle.links.specs.Links.{digest_named, AllName, Rising}
 use Rattle.filing.specs.Filed.{bytes_at, link_named}
 use Rattle.staging.specs.Pages.{PageWords}
-use Rattle.keeping.specs.declared.KeptLength.{KeptLength}
-use Rattle.keeping.specs.declared.KeptLength.TheVariants.{Length, NoRoom, Shared}
 
 -- The pages of a sequence p and their labels. The words of pages are not at hand here (their row is used for the register's pages):
 -- a page begins where the one before it ends.
@@ -53,7 +53,7 @@ pub record ToKeep (s p labels marks : List ℕ) (n : ℕ) (root register : List 
   pub few_words : m ≤ 2 ^ 24
 
 -- The sequence stands at the front of the output; or the output is too short; or two unequal pages share a digest.
-abbrev pub SequenceWritten : List (List ℕ) → List ℕ → KeptLength → List ℕ → Type 0
-SequenceWritten ps out (Length k) out' = (all_apart ps ≡ true) × (k ≡ length (sequence_of ps)) × (out' ≡ front (sequence_of ps) out)
-SequenceWritten ps out NoRoom out' = (all_apart ps ≡ true) × (length out < length (sequence_of ps)) × (length out' ≡ length out)
-SequenceWritten ps out Shared out' = (all_apart ps ≡ false) × (length out' ≡ length out)
+abbrev pub SequenceWritten : List (List ℕ) → List ℕ → Result ℕ Unkept → List ℕ → Type 0
+SequenceWritten ps out (Ok k) out' = (all_apart ps ≡ true) × (k ≡ length (sequence_of ps)) × (out' ≡ front (sequence_of ps) out)
+SequenceWritten ps out (Err Short) out' = (all_apart ps ≡ true) × (length out < length (sequence_of ps)) × (length out' ≡ length out)
+SequenceWritten ps out (Err Shared) out' = (all_apart ps ≡ false) × (length out' ≡ length out)

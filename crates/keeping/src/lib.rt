@@ -14,11 +14,11 @@ ghost use Rattle.keeping.specs.Kept.{LabelledPages, kept_from, ToKeep, SequenceW
 ghost use Rattle.keeping.specs.Inner.{string_of, part_of, InString, PartStands, PastPage, PageBegins, PutBehind, AddSays, NextIs, InRows, progress_after, PassedOver, StepSays};
 
 use bytestring::{same_bytes, write_bytes};
-use key::Order;
 use key_order::compare;
 use known::label_place;
-use page_reader::{PageRead, read_page};
+use page_reader::read_page;
 use staging::{page_end, page_start};
+use std::cmp::Ordering;
 use value::{DIGEST, Digest, digest_at};
 
 // The words from here on name digests in the first of two strings.
@@ -27,19 +27,11 @@ const FROM_FIRST: u32 = 0x100_0000;
 // The words from here on name labels of chains.
 const FROM_CHAINS: u32 = 0x200_0000;
 
-// The length of the sequence; or the output is too short for it; or two unequal pages share a digest.
+// Why no sequence is kept: the output is too short for it, or two unequal pages share a digest.
 #[derive(Clone, Copy)]
-pub enum KeptLength {
-    Length(usize),
-    NoRoom,
+pub enum Unkept {
+    Short,
     Shared,
-}
-
-// Where the pages written so far end with one page more; or that page and the last of them are unequal and share a digest.
-#[derive(Clone, Copy)]
-enum PartAdded {
-    End(usize),
-    Unequal,
 }
 
 // A page: whether it stands in the register to be saved, from which place to before which, and its digest.
@@ -106,9 +98,9 @@ fn word_leads(
     let digest = word_digest(root, register, chains, word);
     let other = label_digest(states, sequence, label);
     match compare(&digest, &other) {
-        Order::Less => true,
-        Order::Equal => false,
-        Order::Greater => false,
+        Ordering::Less => true,
+        Ordering::Equal => false,
+        Ordering::Greater => false,
     }
 }
 
@@ -117,8 +109,8 @@ fn past_page(sequence: &[u8], from: usize) -> usize
     ensures { PastPage sequence.now from result }
 {
     match read_page(sequence, from) {
-        PageRead::Page(page) => page.end,
-        PageRead::PageStop(_) => from,
+        Ok(page) => page.end,
+        Err(_) => from,
     }
 }
 
@@ -261,18 +253,18 @@ fn add_part(
     part: PagePart,
     out: &mut [u8],
     at: usize,
-) -> PartAdded
+) -> Option<usize>
     requires in_string { InString (string_of sequence.now register.now part) part × (at ≤ 2 ^ 62) }
     requires in_string_2 { any ≡ true → InString (string_of sequence.now register.now last) last }
     ensures { AddSays sequence.now register.now any last part out.old at result out.new }
 {
     if repeats(any, last, part) {
         if same_part(sequence, register, part, last) {
-            return PartAdded::End(at);
+            return Some(at);
         }
-        return PartAdded::Unequal;
+        return None;
     }
-    PartAdded::End(put_part(sequence, register, part, out, at))
+    Some(put_part(sequence, register, part, out, at))
 }
 
 // After a page the rows go on behind it.
@@ -356,8 +348,8 @@ fn step(
         states, sequence, labels, n, root, register, root_end, chains, words, m, i, j, place,
     );
     match add_part(sequence, register, progress.any, last, part, out, length) {
-        PartAdded::End(end) => go_on(i, j, place, part, end),
-        PartAdded::Unequal => Progress {
+        Some(end) => go_on(i, j, place, part, end),
+        None => Progress {
             i,
             j,
             place,
@@ -384,7 +376,7 @@ pub fn write_kept(
     words: &[u32],
     m: usize,
     out: &mut [u8],
-) -> KeptLength
+) -> Result<usize, Unkept>
     requires { ToKeep states.now sequence.now labels.now marks.now n root.now register.now root_end chains.now words.now m }
     ensures { (raws : List RawPage) (qs : List (List ℕ)) → LabelledPages states.now sequence.now labels.now n raws → PageWords root.now register.now root_end chains.now words.now m qs → SequenceWritten (kept_from marks.now 0 raws ++ qs) out.old result out.new }
 {
@@ -410,12 +402,12 @@ pub fn write_kept(
             progress, out,
         );
         if progress.shared {
-            return KeptLength::Shared;
+            return Err(Unkept::Shared);
         }
         turn += 1;
     }
     if out.len() < progress.length {
-        return KeptLength::NoRoom;
+        return Err(Unkept::Short);
     }
-    KeptLength::Length(progress.length)
+    Ok(progress.length)
 }

@@ -1,4 +1,5 @@
 -- The key rule by the parts of a key.
+use Rattle.std.specs.Prelude.{Err}
 use Prim.Native.Nat.{ℕ, suc, zero-le, suc-le-suc, ◌≤◌, ◌<◌}
 use mathlib.Core.Path.{◌≡◌, refl, sym, ap, ◌∙◌}
 use mathlib.Core.Bool.{true, false, and-false, false≢true}
@@ -7,7 +8,6 @@ use lib.Dec.{eqb}
 use lib.ListN.{length, drop}
 use borrow.Author.Tests.{ne_eqb, lt-leb}
 use borrow.Table.Steps.{cases}
-use Rattle.answer.specs.declared.Answer.TheVariants.{Refused}
 use Rattle.answer.specs.declared.Refusal.TheVariants.{UnlawfulKey}
 use Rattle.key.specs.Key.{slash_byte, ordinary, collection, name, all_ordinary, lawful, slash_answer}
 use Rattle.key.specs.Inner.{only_slash}
@@ -33,7 +33,7 @@ name_is (b ∷ k) = cases (eqb b slash_byte) (λ e. rw e) (λ e. rw e (name_is k
 
 -- ---- keys that break the rule
 module _ (k : List ℕ) where
-  pub slash_none : lawful k ≡ false → slash_answer k ≡ Refused UnlawfulKey
+  pub slash_none : lawful k ≡ false → slash_answer k ≡ Err UnlawfulKey
   unfolding slash_answer
   slash_none e = rw e
 

@@ -1,5 +1,6 @@
 -- What the crates above use of keys and layers: lawful keys are at most 256 bytes, no layer is above 128, the laws of the order, and those of
 -- the shared bytes.
+use Rattle.std.specs.declared.cmp.Ordering.TheVariants.{Less, Equal, Greater}
 use Prim.Native.Nat.{ℕ, zero, suc, ◌*◌, ◌≤◌, ◌<◌, zero-le, suc-le-suc}
 use mathlib.Core.Path.{◌≡◌, refl, sym, ap, ap₂, ◌∙◌}
 use mathlib.Core.Bool.{Bool, true, false, and-false, false≢true}
@@ -12,7 +13,6 @@ use borrow.Table.Steps.{cases}
 use Rattle.bytestring.specs.Bytes.{Bytes}
 use Rattle.fips180.specs.Hash.{sha256}
 use Rattle.fips180.proofs.Laws.{length_sha256}
-use Rattle.key.specs.declared.Order.TheVariants.{Less, Equal, Greater}
 use Rattle.key.specs.Key.{slash_byte, ordinary, collection, name, all_ordinary, lawful, less, order, shared}
 use Rattle.key.specs.Layer.{bits, bits_of, leading_zero_bits, layer_of_digest, layer_of}
 use Rattle.key.proofs.Lawful.{long_unlawful, lawful_parts}

@@ -1,4 +1,5 @@
 -- Where the slash of a lawful key stands, and what the answer of the slash call tells of a key.
+use Rattle.std.specs.Prelude.{Ok, Err}
 use Prim.Native.Nat.{ℕ, zero, suc, ◌<◌}
 use mathlib.Core.Path.{◌≡◌, refl, sym, ap, ◌∙◌}
 use mathlib.Core.Bool.{true, false, false≢true}
@@ -8,7 +9,6 @@ use lib.Dec.{eqb}
 use lib.ListN.{length, get_or, length-drop}
 use borrow.Author.Tests.{eqb-true, eqb-false, eq-eqb}
 use borrow.Table.Steps.{cases}
-use Rattle.answer.specs.declared.Answer.TheVariants.{Done, Refused}
 use Rattle.answer.specs.declared.Refusal.{Refusal}
 use Rattle.answer.specs.declared.Refusal.TheVariants.{UnlawfulKey}
 use Rattle.key.specs.Key.{slash_byte, ordinary, collection, name, all_ordinary, lawful, slash_answer, SlashAfter}
@@ -62,17 +62,17 @@ module _ (k : List ℕ) (h : lawful k ≡ true) where
       let w = lawful_parts k h in
       record { there = slash_there k has_slash; nowhere_else = no_other_lem k w.0 w.1; parts = parts_joined k has_slash; bytes_before = refl }
 
-  pub slash_stands : (n : ℕ) × (slash_answer k ≡ Done n) × SlashAfter k n
+  pub slash_stands : (n : ℕ) × (slash_answer k ≡ Ok n) × SlashAfter k n
   unfolding slash_answer
   slash_stands = (length (collection k), rw h, slash_after)
 
 -- ---- what an answer tells of its key
 module _ (k : List ℕ) where
-  pub slash_done : (n : ℕ) → slash_answer k ≡ Done n → lawful k ≡ true
+  pub slash_done : (n : ℕ) → slash_answer k ≡ Ok n → lawful k ≡ true
   slash_done n q =
       cases (lawful k) (λ e. e) (λ e. let z : ◌≡◌ {A = ℕ} 0 1 = cc (slash_none k e) in absurd (omega arith))
 
-  pub slash_refused : (r : Refusal) → slash_answer k ≡ Refused r → (lawful k ≡ false) × (r ≡ UnlawfulKey)
+  pub slash_refused : (r : Refusal) → slash_answer k ≡ Err r → (lawful k ≡ false) × (r ≡ UnlawfulKey)
   slash_refused r q =
       cases (lawful k)
       (λ e. let z : ◌≡◌ {A = ℕ} 0 1 = cc (slash_stands k e).1 in absurd (omega arith))

@@ -1,11 +1,10 @@
 -- Keys: the key rule, where the slash stands, their order, and the leading bytes that two keys share.
-use Rattle.std.specs.Prelude.{ℕ, suc, ◌≡◌, Bool, true, false, cond, not, ◌&&◌, ◌||◌, List, [], ◌∷◌, ◌++◌, length, get_or, eqb, ltb, leb}
+use Rattle.answer.specs.declared.Refusal.{Refusal}
+use Rattle.std.specs.declared.cmp.Ordering.{Ordering}
+use Rattle.std.specs.declared.cmp.Ordering.TheVariants.{Less, Equal, Greater}
+use Rattle.std.specs.Prelude.{ℕ, suc, ◌≡◌, Bool, true, false, cond, not, ◌&&◌, ◌||◌, List, [], ◌∷◌, ◌++◌, length, get_or, eqb, ltb, leb, Result, Ok, Err}
 use Rattle.limits.specs.Limits.{longest_key}
-use Rattle.answer.specs.declared.Answer.{Answer}
-use Rattle.answer.specs.declared.Answer.TheVariants.{Done, Refused}
 use Rattle.answer.specs.declared.Refusal.TheVariants.{UnlawfulKey}
-use Rattle.key.specs.declared.Order.{Order}
-use Rattle.key.specs.declared.Order.TheVariants.{Less, Equal, Greater}
 
 -- The byte between the two parts of a key.
 abbrev pub slash_byte : ℕ
@@ -60,8 +59,8 @@ lawful k =
     && not (is_dot_name (name k))
 
 -- The slash call: number 7 where the key rule is broken, otherwise the number of bytes before the slash.
-unfoldable pub slash_answer : List ℕ → Answer
-slash_answer k = cond (lawful k) (Done (length (collection k))) (Refused UnlawfulKey)
+unfoldable pub slash_answer : List ℕ → Result ℕ Refusal
+slash_answer k = cond (lawful k) (Ok (length (collection k))) (Err UnlawfulKey)
 
 -- The slash of a key stands after n bytes: the byte there is a slash and no other byte is one, and the key is its collection of n bytes, the
 -- slash and its name. (get_or k i 0 is the byte of k that i others come before, and 0 past the end.)
@@ -81,7 +80,7 @@ less (a ∷ s) (b ∷ t) =
     cond (ltb a b) true (cond (eqb a b) rest false)
 
 -- The order as one of three cases.
-unfoldable pub order : List ℕ → List ℕ → Order
+unfoldable pub order : List ℕ → List ℕ → Ordering
 order a b = cond (less a b) Less (cond (less b a) Greater Equal)
 
 -- The number of leading bytes that two keys share.

@@ -1,7 +1,6 @@
 -- The layer of a digest and of a byte string, and what the layer call answers.
-use Rattle.std.specs.Prelude.{ℕ, zero, suc, ◌+◌, ◌/◌, ◌%◌, ◌^◌, cond, List, [], ◌∷◌, ◌++◌}
-use Rattle.answer.specs.declared.Answer.{Answer}
-use Rattle.answer.specs.declared.Answer.TheVariants.{Done, Refused}
+use Rattle.answer.specs.declared.Refusal.{Refusal}
+use Rattle.std.specs.Prelude.{ℕ, zero, suc, ◌+◌, ◌/◌, ◌%◌, ◌^◌, cond, List, [], ◌∷◌, ◌++◌, Result, Ok, Err}
 use Rattle.answer.specs.declared.Refusal.TheVariants.{TooLong}
 use Rattle.fips180.specs.Hash.{sha256}
 use Rattle.limits.specs.Limits.{fits_call}
@@ -31,5 +30,5 @@ unfoldable pub layer_of : List ℕ → ℕ
 layer_of s = layer_of_digest (sha256 s)
 
 -- The layer call: number 1 where the input is too long.
-unfoldable pub layer_answer : List ℕ → Answer
-layer_answer s = cond (fits_call s) (Done (layer_of s)) (Refused TooLong)
+unfoldable pub layer_answer : List ℕ → Result ℕ Refusal
+layer_answer s = cond (fits_call s) (Ok (layer_of s)) (Err TooLong)

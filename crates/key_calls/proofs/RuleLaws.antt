@@ -1,4 +1,5 @@
 -- The key rule as the code tries it: the words of ordinary bytes, the pass over a key, the names . and .., and what these tell of a key.
+use Rattle.std.specs.Prelude.{Ok, Err}
 use Prim.Native.Nat.{ℕ, zero, suc, ◌+◌, ◌-◌, ◌%◌, ◌≤◌, ◌<◌}
 use mathlib.Core.Path.{◌≡◌, refl, sym, ◌∙◌}
 use mathlib.Core.Bool.{Bool, true, false, cond, ◌&&◌, beq, and-true, and-false, false≢true}
@@ -11,9 +12,8 @@ use lib.ListN.{length, take, drop, get_or, drop_of_length-le, length-drop}
 use lib.Seq.{drop-cons, take_all}
 use borrow.Author.Tests.{eqb-true, eqb-false, eq-eqb, ne_eqb, ltb-true, ltb-false, le-leb, lt-leb}
 use borrow.Table.Steps.{cases}
-use Rattle.answer.specs.declared.Answer.TheVariants.{Done, Refused}
 use Rattle.answer.specs.declared.Refusal.TheVariants.{UnlawfulKey}
-use Rattle.key.specs.Key.{slash_byte, dot, ordinary, collection, name, all_ordinary, is_dot_name, lawful, slash_answer}
+use Rattle.key.specs.Key.{slash_byte, ordinary, collection, name, all_ordinary, is_dot_name, lawful, slash_answer}
 use Rattle.key.specs.Inner.{only_slash}
 use Rattle.key.proofs.Lawful.{ordinary_no_slash, collection_le, name_is, slash_none, long_unlawful, no_collection, no_name, other_bytes}
 use Rattle.key_calls.specs.Inner.{has_bit, slash_or_end, passed, OrdinaryFrom}
@@ -84,11 +84,10 @@ one_ordinary k i e m a b = let q : m ≡ i = omega arith in rw q e
 pub then_ordinary : (k : List ℕ) (i j l : ℕ) → OrdinaryFrom k i j → OrdinaryFrom k j l → OrdinaryFrom k i l
 then_ordinary k i j l f g m a b = cases (ltb m j) (λ e. f m a (ltb-true m j e)) (λ e. g m (ltb-false m j e) b)
 
--- both halves
-pub halves_ordinary : (k : List ℕ) (i m n : ℕ) → n ≡ i + m + m → (x y : Bool) → (x ≡ true → OrdinaryFrom k i (i + m)) → (y ≡ true → OrdinaryFrom k (i + m) (i + m + m))
-    → x && y ≡ true → OrdinaryFrom k i n
-halves_ordinary k i m n e true y f g h = rw e (then_ordinary k i (i + m) (i + m + m) (f refl) (g h))
-halves_ordinary k i m n e false y f g h = absurd (false≢true h)
+-- one byte more
+pub one_more : (k : List ℕ) (i j n : ℕ) → n ≡ j + 1 → (x y : Bool) → (x ≡ true → OrdinaryFrom k i j) → (y ≡ true → ordinary (get_or k j 0) ≡ true) → x && y ≡ true → OrdinaryFrom k i n
+one_more k i j n e true y f g h = rw e (then_ordinary k i j (j + 1) (f refl) (one_ordinary k j (g h)))
+one_more k i j n e false y f g h = absurd (false≢true h)
 
 -- ---- what the pass tells of a key
 -- after the slash
@@ -115,27 +114,9 @@ pub pass_whole : (k : List ℕ) → passed (length k) (length k) 0 k ≡ slash_o
 unfolding slash_or_end
 pass_whole k = pass_key (length k) 0 k (omega arith) ∙ rw zero-add
 
--- ---- the names . and .. by their length
-pub dots_one : (s : List ℕ) → length s ≡ 1 → eqb (get_or s 0 0) dot ≡ is_dot_name s
-dots_one [] h = absurd (omega arith)
-dots_one (a ∷ []) h = refl
-dots_one (a ∷ b ∷ s) h = absurd (omega arith)
-
-pub dots_two : (s : List ℕ) → length s ≡ 2 → (eqb (get_or s 0 0) dot && eqb (get_or s 1 0) dot) ≡ is_dot_name s
-dots_two [] h = absurd (omega arith)
-dots_two (a ∷ []) h = absurd (omega arith)
-dots_two (a ∷ b ∷ []) h = refl
-dots_two (a ∷ b ∷ c ∷ s) h = absurd (omega arith)
-
-pub dots_other : (s : List ℕ) → (length s ≡ 1 → ⊥) → (length s ≡ 2 → ⊥) → false ≡ is_dot_name s
-dots_other [] f g = refl
-dots_other (a ∷ []) f g = absurd (f refl)
-dots_other (a ∷ b ∷ []) f g = absurd (g refl)
-dots_other (a ∷ b ∷ c ∷ s) f g = refl
-
 -- ---- the ways that the code answers
 module _ (k : List ℕ) where
-  pub long_refused : 256 < length k → Refused UnlawfulKey ≡ slash_answer k
+  pub long_refused : 256 < length k → Err UnlawfulKey ≡ slash_answer k
   long_refused h = sym (slash_none k (long_unlawful k h))
 
   -- at is what the pass answered
@@ -150,10 +131,10 @@ module _ (k : List ℕ) where
     pub within : at ≤ length k
     within = by_bytes (λ _ e. omega arith) (λ _ e. omega (arith, collection_le k))
 
-    pub nothing_before : at ≡ 0 → Refused UnlawfulKey ≡ slash_answer k
+    pub nothing_before : at ≡ 0 → Err UnlawfulKey ≡ slash_answer k
     nothing_before z = sym (slash_none k (by_bytes (λ f _. f) (λ _ e. no_collection k (sym e ∙ z))))
 
-    pub nothing_after : length k - at < 2 → Refused UnlawfulKey ≡ slash_answer k
+    pub nothing_after : length k - at < 2 → Err UnlawfulKey ≡ slash_answer k
     nothing_after h = sym (slash_none k (by_bytes (λ f _. f) (λ _ e. no_name k (omega (arith, name_length e)))))
 
     -- some byte stands on each side of the slash, and d says whether the part after it is . or ..
@@ -161,11 +142,11 @@ module _ (k : List ℕ) where
       name_told : at ≡ length (collection k) → is_dot_name (name k) ≡ d
       name_told e = rw (l, name_is k, ← e, add-one, take_all (length k - suc at) (drop (suc at) k) (simp length-drop (omega arith)))
 
-      pub dots_after : d ≡ true → Refused UnlawfulKey ≡ slash_answer k
+      pub dots_after : d ≡ true → Err UnlawfulKey ≡ slash_answer k
       unfolding lawful
       dots_after y = sym (slash_none k (by_bytes (λ u _. u) (λ _ e. simp (name_told e, y, and-false))))
 
-      pub two_parts : length k ≤ 256 → d ≡ false → Done at ≡ slash_answer k
+      pub two_parts : length k ≤ 256 → d ≡ false → Ok at ≡ slash_answer k
       unfolding lawful only_slash slash_answer
       two_parts short y =
           by_bytes

@@ -8,14 +8,11 @@ fn leading_zero_bits(words: [u32; 8]) -> u32
     ensures { result ≡ leading_zero_bits (bits_of (bytes_of words)) }
 {
     let mut n: u32 = 0;
-    let mut i = 0;
-    while i < 8 {
-        let word = words[i];
-        n += u32::leading_zeros(word);
+    for word in words {
+        n += word.leading_zeros();
         if word != 0 {
-            return n;
+            break;
         }
-        i += 1;
     }
     n
 }

@@ -1,4 +1,5 @@
 -- Texts added at a place of an output.
+use Rattle.std.specs.Prelude.{Option, Some, None}
 use Prim.Native.Nat.{ℕ, zero, suc, ◌+◌, ◌-◌, ◌/◌, ◌%◌, ◌≤◌, ◌<◌}
 use mathlib.Core.Path.{◌≡◌, refl, sym, ap, subst, ◌∙◌}
 use mathlib.Core.List.{List, [], ◌∷◌, ◌++◌, append_assoc, append-nil}
@@ -11,39 +12,37 @@ use Rattle.bytestring.specs.Bytes.{front}
 use Rattle.bytestring.proofs.Lending.{lent, back, onto_place}
 use Rattle.promises.specs.Listing.{digits, line_feed}
 use Rattle.listing.specs.Text.{TextStands, Adds}
-use Rattle.listing.specs.declared.text.TextAdded.{TextAdded}
-use Rattle.listing.specs.declared.text.TextAdded.TheVariants.{Text, NoRoom}
 
 -- ---- one text after another
-pub adds_nothing : (o : List ℕ) (at : ℕ) → Adds o at [] o (Text at)
+pub adds_nothing : (o : List ℕ) (at : ℕ) → Adds o at [] o (Some at)
 adds_nothing o at = record { adds = λ p w. rw (append-nil p) w }
 
-pub no_room : (o e : List ℕ) (at : ℕ) (x : List ℕ) → length e ≡ length o → length o < at + length x → Adds o at x e NoRoom
+pub no_room : (o e : List ℕ) (at : ℕ) (x : List ℕ) → length e ≡ length o → length o < at + length x → Adds o at x e None
 no_room o e at x k h = record { adds = λ p w. omega (arith, w.0, length-append p x) }
 
 module _ {o e : List ℕ} {at : ℕ} {x : List ℕ} where
-  pub adds_then : {m : List ℕ} {n : ℕ} {q r : TextAdded} {y : List ℕ} → Adds o at x m q → q ≡ Text n → Adds m n y e r → Adds o at (x ++ y) e r
+  pub adds_then : {m : List ℕ} {n : ℕ} {q r : Option ℕ} {y : List ℕ} → Adds o at x m q → q ≡ Some n → Adds m n y e r → Adds o at (x ++ y) e r
   adds_then {m} {n} {q} {r} {y} f h g = record {
     adds = λ p w. subst (λ (l : List ℕ). TextStands e l r) (append_assoc p x y)
-        (g.adds (p ++ x) (subst (λ (z : TextAdded). TextStands m (p ++ x) z) h (f.adds p w)));
+        (g.adds (p ++ x) (subst (λ (z : Option ℕ). TextStands m (p ++ x) z) h (f.adds p w)));
   }
 
-  pub adds_short : {q : TextAdded} → Adds o at x e q → q ≡ NoRoom → (y : List ℕ) → Adds o at (x ++ y) e NoRoom
+  pub adds_short : {q : Option ℕ} → Adds o at x e q → q ≡ None → (y : List ℕ) → Adds o at (x ++ y) e None
   adds_short {q} f h y = record {
     adds = λ p w.
-        let short : length e < length (p ++ x) = subst (λ (z : TextAdded). TextStands e (p ++ x) z) h (f.adds p w) in
+        let short : length e < length (p ++ x) = subst (λ (z : Option ℕ). TextStands e (p ++ x) z) h (f.adds p w) in
         omega (arith, length-append p x, length-append x y, length-append p (x ++ y));
   }
 
-  pub adds_same : {r : TextAdded} {y : List ℕ} → Adds o at x e r → y ≡ x → Adds o at y e r
+  pub adds_same : {r : Option ℕ} {y : List ℕ} → Adds o at x e r → y ≡ x → Adds o at y e r
   adds_same {r} f h = subst (λ (l : List ℕ). Adds o at l e r) (sym h) f
 
 -- from the place 0 on
-pub adds_first : {o e x y : List ℕ} {r : TextAdded} → Adds o 0 x e r → y ≡ x → TextStands e y r
+pub adds_first : {o e x y : List ℕ} {r : Option ℕ} → Adds o 0 x e r → y ≡ x → TextStands e y r
 adds_first {o} {e} {x} {y} {r} f h = subst (λ (l : List ℕ). TextStands e l r) (sym h) (f.adds [] (refl, omega arith, refl))
 
 -- ---- bytes
-pub adds_byte : (o : List ℕ) (at b : ℕ) → at < length o → Adds o at (b ∷ []) (set o at b) (Text (at + 1))
+pub adds_byte : (o : List ℕ) (at b : ℕ) → at < length o → Adds o at (b ∷ []) (set o at b) (Some (at + 1))
 adds_byte o at b h = record {
   adds = λ p w. (
     omega (arith, w.0, length-append p (b ∷ [])),
@@ -53,7 +52,7 @@ adds_byte o at b h = record {
 }
 
 -- written at the front of the part that is lent from the place on
-pub adds_bytes : (bytes o ys : List ℕ) (at : ℕ) → at + length bytes ≤ length o → ys ≡ front bytes (lent at o) → Adds o at bytes (back at o ys) (Text (at + length bytes))
+pub adds_bytes : (bytes o ys : List ℕ) (at : ℕ) → at + length bytes ≤ length o → ys ≡ front bytes (lent at o) → Adds o at bytes (back at o ys) (Some (at + length bytes))
 adds_bytes bytes o ys at h f =
     let low : at ≤ length o = omega arith in
     let n : length (take at o) ≡ at = length-take-le at o low in

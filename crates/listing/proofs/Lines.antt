@@ -1,4 +1,5 @@
 -- The lines of records.
+use Rattle.std.specs.Prelude.{Option, Some, None}
 use Prim.Native.Nat.{ℕ, suc, ◌+◌, ◌-◌, ◌*◌, ◌/◌, ◌%◌, ◌≤◌, ◌<◌}
 use mathlib.Core.Path.{◌≡◌, refl, sym, ap, subst, ◌∙◌}
 use mathlib.Core.List.{List, [], ◌∷◌, ◌++◌, map, append_assoc, append-nil}
@@ -14,8 +15,6 @@ use Rattle.row.specs.declared.recall.Recalled.{Recalled}
 use Rattle.row.proofs.Rows.{source_same, records_none, records_more, records_split}
 use Rattle.promises.specs.Listing.{hex_digit, hexadecimal, space, line_feed, record_lines}
 use Rattle.listing.specs.Text.{Adds, line_end, line_of, LineSays}
-use Rattle.listing.specs.declared.text.TextAdded.{TextAdded}
-use Rattle.listing.specs.declared.text.TextAdded.TheVariants.{Text, NoRoom}
 use Rattle.listing.proofs.Adding.{adds_nothing, adds_then, adds_short, adds_same}
 
 -- ---- the end of a line
@@ -69,14 +68,14 @@ digits_all value text i u n e h k =
 
 -- ---- a line
 module _ {s keys notes : List ℕ} {word : ℕ} {found : Recalled} (w : Recalls s s word keys notes found) {o : List ℕ} {at n : ℕ} (size : n ≡ found.size)
-    {m : List ℕ} {q : TextAdded} (a : Adds o at (take n (drop found.from keys)) m q) where
+    {m : List ℕ} {q : Option ℕ} (a : Adds o at (take n (drop found.from keys)) m q) where
   key_added : Adds o at (record_of_word s s word).key m q
   key_added = adds_same a (sym w.key ∙ ap (λ (i : ℕ). take i (drop found.from keys)) (sym size))
 
-  pub short_line : q ≡ NoRoom → LineSays s word o at m keys notes NoRoom
+  pub short_line : q ≡ None → LineSays s word o at m keys notes None
   short_line h = record { line = adds_short key_added h (line_end (record_of_word s s word).val); remembers = w.remembers }
 
-  pub whole_line : {e value rest : List ℕ} {next : ℕ} {r : TextAdded} → q ≡ Text next → (found.value + 32 ≤ length s → value ≡ value_in s found.value)
+  pub whole_line : {e value rest : List ℕ} {next : ℕ} {r : Option ℕ} → q ≡ Some next → (found.value + 32 ≤ length s → value ≡ value_in s found.value)
       → rest ≡ line_end value → Adds m next rest e r → LineSays s word o at e keys notes r
   whole_line {rest} h v l b =
       let place : found.value + 32 ≤ length s = rw source_same at w.within in
@@ -106,19 +105,19 @@ one_line_alone r = one_line r [] ∙ ap (λ (l : List ℕ). line_of r ++ l) no_l
 
 -- the lines of the first i records are added
 abbrev pub LinesSoFar : List ℕ → List ℕ → List ℕ → ℕ → List ℕ → ℕ → ℕ → Type 0
-LinesSoFar s index o at out next i = Adds o at (record_lines (records_of s s index i)) out (Text next)
+LinesSoFar s index o at out next i = Adds o at (record_lines (records_of s s index i)) out (Some next)
 
 pub lines_begin : (s index o : List ℕ) (at : ℕ) → LinesSoFar s index o at o at 0
 lines_begin s index o at = adds_same (adds_nothing o at) (ap record_lines (records_none s s index) ∙ no_lines)
 
 module _ (s index o : List ℕ) (at : ℕ) (out : List ℕ) (next i : ℕ) (u : LinesSoFar s index o at out next i) (count : ℕ) (most : i ≤ count) where
-  abbrev Lines : List ℕ → TextAdded → Type 0
+  abbrev Lines : List ℕ → Option ℕ → Type 0
   Lines e r = Adds o at (record_lines (records_of s s index count)) e r
 
-  pub lines_end : count ≤ i → Lines out (Text next)
+  pub lines_end : count ≤ i → Lines out (Some next)
   lines_end h = let all : count ≡ i = omega arith in rw all u
 
-  module _ (more : i < count) (room : count ≤ length index) (e keys notes : List ℕ) (q : TextAdded)
+  module _ (more : i < count) (room : count ≤ length index) (e keys notes : List ℕ) (q : Option ℕ)
       (l : LineSays s (get_or index i 0) out next e keys notes q) where
     with_line : Adds o at (record_lines (records_of s s index (i + 1))) e q
     with_line =
@@ -127,10 +126,10 @@ module _ (s index o : List ℕ) (at : ℕ) (out : List ℕ) (next i : ℕ) (u : 
         (ap record_lines (records_more s s index i (omega arith)) ∙ lines_append (records_of s s index i) (r ∷ [])
         ∙ ap (λ (x : List ℕ). record_lines (records_of s s index i) ++ x) (one_line_alone r))
 
-    pub lines_more : (past : ℕ) → q ≡ Text past → LinesSoFar s index o at e past (i + 1)
-    lines_more past h = subst (λ (r : TextAdded). Adds o at (record_lines (records_of s s index (i + 1))) e r) h with_line
+    pub lines_more : (past : ℕ) → q ≡ Some past → LinesSoFar s index o at e past (i + 1)
+    lines_more past h = subst (λ (r : Option ℕ). Adds o at (record_lines (records_of s s index (i + 1))) e r) h with_line
 
-    pub lines_short : q ≡ NoRoom → Lines e NoRoom
+    pub lines_short : q ≡ None → Lines e None
     lines_short h =
         let rest : List Record = map (record_of_word s s) (take (count - (i + 1)) (drop (i + 1) index)) in
         adds_same (adds_short with_line h (record_lines rest))

@@ -1,4 +1,5 @@
 -- The text for a verdict.
+use Rattle.std.specs.Prelude.{Option, Some, None}
 use Prim.Native.Nat.{ℕ, ◌+◌, ◌^◌, ◌≤◌, ◌<◌}
 use mathlib.Core.Path.{◌≡◌, sym, ap, subst, ◌∙◌}
 use mathlib.Core.List.{List, [], ◌∷◌, ◌++◌}
@@ -17,8 +18,6 @@ use Rattle.row.proofs.Rows.{accepted_short, accepted_row, accepted_records_lem}
 use Rattle.promises.specs.Listing.{decimal, space, line_feed, record_lines, listing_of, refusal_line, listing_verdict, longest_input, listing, longest_listing}
 use Rattle.promises.proofs.ListingLaws.{too_long, first_bytes_decide, listing_fits}
 use Rattle.listing.specs.Text.{IsPrefixLen, TextStands, Adds, ListsInput}
-use Rattle.listing.specs.declared.text.TextAdded.{TextAdded}
-use Rattle.listing.specs.declared.text.TextAdded.TheVariants.{Text, NoRoom}
 use Rattle.listing.proofs.Adding.{adds_then, adds_short, adds_same, adds_first, then_lines}
 
 -- ---- the first lines
@@ -40,10 +39,10 @@ refused_text : (s : List ℕ) {r : Refusal} → length s ≤ 65536 → judge s �
 unfolding listing listing_verdict refusal_line
 refused_text s h e = rw (le-leb (length s) 65536 h, e)
 
-pub wrote_too_long : {o e : List ℕ} {r : TextAdded} (s : List ℕ) → 65536 < length s → Adds o 0 (first_line refused_word 1) e r → TextStands e (listing s) r
+pub wrote_too_long : {o e : List ℕ} {r : Option ℕ} (s : List ℕ) → 65536 < length s → Adds o 0 (first_line refused_word 1) e r → TextStands e (listing s) r
 wrote_too_long s h f = adds_first f (too_long_text s h)
 
-pub wrote_refused : {o e : List ℕ} {r : TextAdded} (s : List ℕ) {why : Refusal} → length s ≤ 65536 → judge s ≡ refused why → (n : ℕ) → n ≡ number_of why
+pub wrote_refused : {o e : List ℕ} {r : Option ℕ} (s : List ℕ) {why : Refusal} → length s ≤ 65536 → judge s ≡ refused why → (n : ℕ) → n ≡ number_of why
     → Adds o 0 (first_line refused_word n) e r → TextStands e (listing s) r
 wrote_refused s h j n i f = adds_first f (refused_text s h j ∙ ap (first_line refused_word) (sym i))
 
@@ -54,32 +53,32 @@ index_row {s} {index} {count} b a =
     let short : length s < 2 ^ 24 = accepted_short s index a.tree count b a.judged a.indexed a.size a.room in
     accepted_row s index a.tree count b a.judged a.indexed a.size a.room s short
 
-module _ {s index : List ℕ} {count : ℕ} (short : length s ≤ 65536) (a : AcceptedIndex s index count) {o m : List ℕ} {q : TextAdded}
+module _ {s index : List ℕ} {count : ℕ} (short : length s ≤ 65536) (a : AcceptedIndex s index count) {o m : List ℕ} {q : Option ℕ}
     (f : Adds o 0 (first_line records_word count) m q) where
   accepted_text : listing s ≡ first_line records_word count ++ record_lines (records a.tree)
   unfolding listing listing_verdict listing_of
   accepted_text =
       rw (le-leb (length s) 65536 short, a.judged, sym a.size) (then_lines records_word (decimal count) (record_lines (records a.tree)))
 
-  pub wrote_records : {e : List ℕ} {r : TextAdded} {at : ℕ} → Bytes s → q ≡ Text at
+  pub wrote_records : {e : List ℕ} {r : Option ℕ} {at : ℕ} → Bytes s → q ≡ Some at
       → Adds m at (record_lines (records_of s s index count)) e r → TextStands e (listing s) r
   wrote_records b h l =
       let all : records_of s s index count ≡ records a.tree = accepted_records_lem s index a.tree count b a.judged a.indexed a.size a.room s in
       adds_first (adds_then f h (adds_same l (ap record_lines (sym all)))) accepted_text
 
-  pub wrote_short : q ≡ NoRoom → TextStands m (listing s) NoRoom
+  pub wrote_short : q ≡ None → TextStands m (listing s) None
   wrote_short h = adds_first (adds_short f h (record_lines (records a.tree))) accepted_text
 
 -- ---- the whole text, with room for it
-module _ (s out : List ℕ) {r : TextAdded} (w : TextStands out (listing s) r) where
-  pub wrote_whole : {n : ℕ} → r ≡ Text n → IsPrefixLen n out × (take n out ≡ listing s)
+module _ (s out : List ℕ) {r : Option ℕ} (w : TextStands out (listing s) r) where
+  pub wrote_whole : {n : ℕ} → r ≡ Some n → IsPrefixLen n out × (take n out ≡ listing s)
   wrote_whole {n} e =
-      let t = subst (λ (q : TextAdded). TextStands out (listing s) q) e w in
+      let t = subst (λ (q : Option ℕ). TextStands out (listing s) q) e w in
       ((t.1, sym (length-take-le n out t.1)), t.2)
 
-  pub never_short : Bytes s → length out ≡ longest_listing → r ≡ NoRoom → ⊥
+  pub never_short : Bytes s → length out ≡ longest_listing → r ≡ None → ⊥
   never_short b h e =
-      let short = subst (λ (q : TextAdded). TextStands out (listing s) q) e w in
+      let short = subst (λ (q : Option ℕ). TextStands out (listing s) q) e w in
       omega (arith, listing_fits (record { list = s; small = b }))
 
 -- ---- what was read decides

@@ -7,69 +7,62 @@ ghost use Rattle.value.specs.Value.{value_length};
 ghost use Rattle.listing.specs.Text.{IsPrefixLen, TextStands, Adds, line_end, LineSays};
 
 use bytestring::write_bytes;
-use judge::{Register, judge};
+use judge::judge;
 use limits::MOST;
 use row::recall::recall;
 use value::{VALUE, value_at};
 
-// A text's length, or that there is no room for it.
-#[derive(Clone, Copy)]
-pub enum TextAdded {
-    Text(usize),
-    NoRoom,
-}
-
 // One byte, at a place.
-fn add_byte(out: &mut [u8], at: usize, byte: u8) -> TextAdded
+fn add_byte(out: &mut [u8], at: usize, byte: u8) -> Option<usize>
     ensures { Adds out.old at (byte ∷ []) out.new result }
 {
     if out.len() <= at {
-        return TextAdded::NoRoom;
+        return None;
     }
     out[at] = byte;
-    TextAdded::Text(at + 1)
+    Some(at + 1)
 }
 
 // These bytes, at a place.
-fn add(out: &mut [u8], at: usize, bytes: &[u8]) -> TextAdded
+fn add(out: &mut [u8], at: usize, bytes: &[u8]) -> Option<usize>
     ensures { Adds out.old at bytes.now out.new result }
 {
     if out.len() < at {
-        return TextAdded::NoRoom;
+        return None;
     }
     if out.len() - at < bytes.len() {
-        return TextAdded::NoRoom;
+        return None;
     }
     write_bytes(&mut out[at..], bytes);
-    TextAdded::Text(at + bytes.len())
+    Some(at + bytes.len())
 }
 
 // A number in decimal, of at most so many digits.
-fn add_digits(out: &mut [u8], at: usize, most: usize, n: usize) -> TextAdded
+fn add_digits(out: &mut [u8], at: usize, most: usize, n: usize) -> Option<usize>
     ensures { Adds out.old at (digits most n) out.new result }
 {
     if most == 0 {
-        return TextAdded::Text(at);
+        return Some(at);
     }
     if n < 10 {
         return add_byte(out, at, 0x30 + n as u8);
     }
     match add_digits(out, at, most - 1, n / 10) {
-        TextAdded::Text(next) => add_byte(out, next, 0x30 + (n % 10) as u8),
-        TextAdded::NoRoom => TextAdded::NoRoom,
+        Some(next) => add_byte(out, next, 0x30 + (n % 10) as u8),
+        None => None,
     }
 }
 
 // The first line: a word and a number.
-fn add_first_line(out: &mut [u8], word: &[u8], n: usize) -> TextAdded
+fn add_first_line(out: &mut [u8], word: &[u8], n: usize) -> Option<usize>
     ensures { Adds out.old 0 (word.now ++ (decimal n ++ (line_feed ∷ []))) out.new result }
 {
     match add(out, 0, word) {
-        TextAdded::Text(first) => match add_digits(out, first, 20, n) {
-            TextAdded::Text(next) => add_byte(out, next, 0x0A),
-            TextAdded::NoRoom => TextAdded::NoRoom,
+        Some(first) => match add_digits(out, first, 20, n) {
+            Some(next) => add_byte(out, next, 0x0A),
+            None => None,
         },
-        TextAdded::NoRoom => TextAdded::NoRoom,
+        None => None,
     }
 }
 
@@ -105,7 +98,7 @@ fn add_line(
     word: u64,
     keys: &mut [u8],
     notes: &mut [u64],
-) -> TextAdded
+) -> Option<usize>
     requires { (length s.now < 2 ^ 24) × Stands s.now s.now word × Remembers s.now s.now keys.old notes.old × (length notes.old ≡ 64) }
     ensures { LineSays s.now word out.old at out.new keys.new notes.new result }
 {
@@ -113,17 +106,17 @@ fn add_line(
     let from = found.from;
     let to = from + found.size;
     match add(out, at, &keys[from..to]) {
-        TextAdded::Text(next) => {
+        Some(next) => {
             let value = value_at(s, found.value);
             let rest = line_end(&value);
             add(out, next, &rest)
         }
-        TextAdded::NoRoom => TextAdded::NoRoom,
+        None => None,
     }
 }
 
 // The lines of all records.
-fn add_lines(out: &mut [u8], at: usize, s: &[u8], index: &[u64], count: usize) -> TextAdded
+fn add_lines(out: &mut [u8], at: usize, s: &[u8], index: &[u64], count: usize) -> Option<usize>
     requires { Row s.now s.now index.now count }
     ensures { Adds out.old at (record_lines (records_of s.now s.now index.now count)) out.new result }
 {
@@ -133,20 +126,20 @@ fn add_lines(out: &mut [u8], at: usize, s: &[u8], index: &[u64], count: usize) -
     let mut i = 0;
     while i < count {
         match add_line(out, next, s, index[i], &mut keys, &mut notes) {
-            TextAdded::Text(past) => {
+            Some(past) => {
                 next = past;
             }
-            TextAdded::NoRoom => {
-                return TextAdded::NoRoom;
+            None => {
+                return None;
             }
         }
         i += 1;
     }
-    TextAdded::Text(next)
+    Some(next)
 }
 
 // The listing of what was read, where there is room for it.
-fn write_listing(s: &[u8], out: &mut [u8]) -> TextAdded
+fn write_listing(s: &[u8], out: &mut [u8]) -> Option<usize>
     ensures { TextStands out.new (listing s.now) result }
 {
     if 65536 < s.len() {
@@ -155,15 +148,11 @@ fn write_listing(s: &[u8], out: &mut [u8]) -> TextAdded
     let mut index = [0u64; MOST];
     let mut chains = [0u64; 2 * MOST];
     match judge(s, &mut index, &mut chains) {
-        Register::Accepted(count, _) => match add_first_line(out, b"records ", count) {
-            TextAdded::Text(at) => add_lines(out, at, s, &index, count),
-            TextAdded::NoRoom => TextAdded::NoRoom,
+        Ok((count, _)) => match add_first_line(out, b"records ", count) {
+            Some(at) => add_lines(out, at, s, &index, count),
+            None => None,
         },
-        Register::Refused(refusal) => add_first_line(
-            out,
-            b"refused ",
-            answer::number_of(refusal) as usize,
-        ),
+        Err(refusal) => add_first_line(out, b"refused ", answer::number_of(refusal) as usize),
     }
 }
 
@@ -172,7 +161,7 @@ pub fn list_input(s: &[u8], out: &mut [u8; 524288]) -> usize
     ensures { IsPrefixLen result out.new × (take result out.new ≡ listing s.now) }
 {
     match write_listing(s, out) {
-        TextAdded::Text(length) => length,
-        TextAdded::NoRoom => 0,
+        Some(length) => length,
+        None => 0,
     }
 }

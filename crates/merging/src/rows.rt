@@ -9,7 +9,8 @@ use crate::write::write_chosen;
 use checking::judge_lent;
 use digests::root_end;
 use head::{Head, Headed};
-use judge::{Register, judge};
+use judge::judge;
+use lending::with_rows;
 use row_words::to_second;
 use writer::refusal::refuse_headed;
 
@@ -20,28 +21,31 @@ pub fn merge_with_rows(
     second: &[u8],
     index: &mut [u64],
     chains: &mut [u64],
-    others: &mut [u64],
-    other_chains: &mut [u64],
     out: &mut [u8],
 ) -> Headed
-    requires { RoomFor first.now 1 (length index.old) × RoomFor first.now 2 (length chains.old) × RoomFor second.now 1 (length others.old) × RoomFor second.now 2 (length other_chains.old) }
+    requires { RoomFor first.now 1 (length index.old) × RoomFor first.now 2 (length chains.old) }
     ensures headed { result ≡ headed (merge_outcome first.now head second.now (length out.old)) head }
     ensures output { out.new ≡ moved_output (merge_outcome first.now head second.now (length out.old)) (length out.old) }
 {
     match judge_lent(first, head, index, chains) {
-        Register::Accepted(n, first_count) => merge_second(
-            first,
-            head,
+        Ok((n, first_count)) => with_rows(
             second,
-            index,
-            n,
-            chains,
-            first_count,
-            others,
-            other_chains,
-            out,
+            &mut |others, other_chains| {
+                merge_second(
+                    first,
+                    head,
+                    second,
+                    index,
+                    n,
+                    chains,
+                    first_count,
+                    others,
+                    other_chains,
+                    out,
+                )
+            },
         ),
-        Register::Refused(refusal) => refuse_headed(out, refusal, head),
+        Err(refusal) => refuse_headed(out, refusal, head),
     }
 }
 
@@ -63,7 +67,7 @@ fn merge_second(
     ensures output { out.new ≡ moved_output (merge_outcome first.now head second.now (length out.old)) (length out.old) }
 {
     match judge(second, others, other_chains) {
-        Register::Accepted(m, second_count) => {
+        Ok((m, second_count)) => {
             to_second(others, m);
             let end = root_end(first, chains, first_count);
             write_chosen(
@@ -82,6 +86,6 @@ fn merge_second(
                 out,
             )
         }
-        Register::Refused(refusal) => refuse_headed(out, refusal, head),
+        Err(refusal) => refuse_headed(out, refusal, head),
     }
 }

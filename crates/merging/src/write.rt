@@ -8,14 +8,16 @@ ghost use Rattle.choice.specs.Choice.{woven_of};
 ghost use Rattle.writing.specs.Writing.{moved_to};
 
 use answer::Refusal;
-use choice::choose::{Chosen, choose};
+use choice::choose::choose;
 use head::{Head, Headed};
 use limits::MOST;
 use writer::refusal::refuse_headed;
 use writer::write_headed;
 
 // The table of the records of two rows, which stand in two registers with these chains. Where both have a key, the greater value is taken. The
-// lent head's digest is that of this root page.
+// lent head's digest is that of this root page. Were this inlined, its rows would stand in the frame that judges the second register, whose verdict
+// would then use other places of the stack than the first's: that is slower where both are small.
+#[inline(never)]
 pub fn write_chosen(
     s: &[u8],
     u: &[u8],
@@ -37,7 +39,7 @@ pub fn write_chosen(
 {
     let mut row = [0u64; MOST];
     match choose(s, u, first, n, second, m, &mut row) {
-        Chosen::Count(count) => write_headed(
+        Some(count) => write_headed(
             s,
             u,
             first_chains,
@@ -50,6 +52,6 @@ pub fn write_chosen(
             head,
             out,
         ),
-        Chosen::TooMany => refuse_headed(out, Refusal::TooManyRecords, head),
+        None => refuse_headed(out, Refusal::TooManyRecords, head),
     }
 }

@@ -1,4 +1,5 @@
 -- Entries of a page, read one by one.
+use Rattle.std.specs.Prelude.{Result, Ok, Err}
 use Prim.Native.Nat.{ℕ, suc, ◌+◌, ◌-◌, ◌≤◌, ◌<◌}
 use mathlib.Core.Path.{◌≡◌, refl, sym, subst, ◌∙◌}
 use mathlib.Core.List.{List, [], ◌∷◌}
@@ -12,8 +13,6 @@ use Rattle.page_reader.specs.Place.{read_stop, entry_at, EntryHere, EntryIs}
 use Rattle.page_reader.specs.declared.Stop.{Stop}
 use Rattle.page_reader.specs.declared.Stop.TheVariants.{EndsEarly, Departs}
 use Rattle.page_reader.specs.declared.EntryAt.{EntryAt}
-use Rattle.page_reader.specs.declared.EntryRead.{EntryRead}
-use Rattle.page_reader.specs.declared.EntryRead.TheVariants.{Entry, EntryStop}
 use Rattle.page.proofs.Readers.{ends_early≢read, departs≢read, read_sub, andThen-inv}
 use Rattle.page_reader.proofs.Places.{then_stops}
 use Rattle.page.proofs.Pages.{GoodEntry, entry_spells}
@@ -24,7 +23,7 @@ read_stop≢read EndsEarly e = ends_early≢read e
 read_stop≢read Departs e = departs≢read e
 
 -- ---- one entry, where it stands
-module _ (s : List ℕ) (at : ℕ) (m : EntryRead) (w : EntryIs s at m) (e : EntryAt) (q : m ≡ Entry e) where
+module _ (s : List ℕ) (at : ℕ) (m : Result EntryAt Stop) (w : EntryIs s at m) (e : EntryAt) (q : m ≡ Ok e) where
   entry_here : EntryHere s at e
   entry_here = subst (EntryIs s at) q w
 
@@ -50,16 +49,16 @@ module _ (s : List ℕ) (n i at past : ℕ) (l : List RawEntry) (reads : times (
       let y : read [] (drop at s) ≡ read l (drop past s) = rw none_left at reads in
       read_sub (λ k _. k ≡ []) y refl
 
-  module _ (h : i < n) (m : EntryRead) (w : EntryIs s at m) where
+  module _ (h : i < n) (m : Result EntryAt Stop) (w : EntryIs s at m) where
     entry_next : and_then (entry (drop at s)) (λ a t. and_then (times (n - (i + 1)) entry t) (λ k v. read (a ∷ k) v)) ≡ read l (drop past s)
     unfolding times
     entry_next = let one_less : n - i ≡ suc (n - (i + 1)) = omega arith in rw one_less at reads
 
-    pub row_goes_on : (stop : Stop) → m ≡ EntryStop stop → ⊥
+    pub row_goes_on : (stop : Stop) → m ≡ Err stop → ⊥
     row_goes_on stop q = read_stop≢read stop (sym (then_stops _ stop (subst (EntryIs s at) q w)) ∙ entry_next)
 
     -- the entries behind the one that was read
-    pub row_behind : (e : EntryAt) → m ≡ Entry e
+    pub row_behind : (e : EntryAt) → m ≡ Ok e
         → (k : List RawEntry) × (l ≡ entry_at s e ∷ k) × (times (n - (i + 1)) entry (drop e.end s) ≡ read k (drop past s))
     row_behind e q =
         let x : EntryHere s at e = subst (EntryIs s at) q w in

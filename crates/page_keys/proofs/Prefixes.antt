@@ -1,4 +1,5 @@
 -- Prefix lengths: one entry's, and those of a row of entries.
+use Rattle.std.specs.Prelude.{Result, Ok, Err}
 use Prim.Native.Nat.{ℕ, zero, suc, ◌+◌, ◌-◌, ◌≤◌, ◌<◌}
 use mathlib.Core.Path.{◌≡◌, refl, sym, ap, ◌∙◌}
 use mathlib.Core.Bool.{Bool, true, false, not}
@@ -16,8 +17,6 @@ use Rattle.page.specs.Page.{RawEntry, entry}
 use Rattle.page_reader.specs.Place.{EntryIs}
 use Rattle.page_reader.specs.declared.Stop.{Stop}
 use Rattle.page_reader.specs.declared.EntryAt.{EntryAt}
-use Rattle.page_reader.specs.declared.EntryRead.{EntryRead}
-use Rattle.page_reader.specs.declared.EntryRead.TheVariants.{Entry, EntryStop}
 use Rattle.tree.specs.OnePage.{prefixes_of}
 use Rattle.page_keys.specs.Buffer.{HoldsKey, Extended, PrefixIs}
 use Rattle.page_keys.proofs.Buffers.{holds_none}
@@ -121,12 +120,12 @@ module _ (s : List ℕ) (first n i at : ℕ) (buffer : List ℕ) (size : ℕ) (u
   unfolding RowSoFar prefixes_of
   row_all h es past r = let x = u es past r in sym (x.same ∙ rw (row_ends s n i at past x.left x.reads h))
 
-  module _ (h : i < n) (m : EntryRead) (w : EntryIs s at m) where
-    pub row_stops : (stop : Stop) → m ≡ EntryStop stop → RowIs s first n true
+  module _ (h : i < n) (m : Result EntryAt Stop) (w : EntryIs s at m) where
+    pub row_stops : (stop : Stop) → m ≡ Err stop → RowIs s first n true
     unfolding RowSoFar
     row_stops stop q es past r = let x = u es past r in absurd (row_goes_on s n i at past x.left x.reads h m w stop q)
 
-    module _ (e : EntryAt) (q : m ≡ Entry e) (fits : Bool) (p : PrefixIs buffer size s e.shares e.remainder e.size fits)
+    module _ (e : EntryAt) (q : m ≡ Ok e) (fits : Bool) (p : PrefixIs buffer size s e.shares e.remainder e.size fits)
         (bytes : Bytes s) (large : 65536 ≤ length buffer) where
       right_now : (k : List ℕ) → HoldsKey buffer size k → fits ≡ eqb e.shares (shared k (take e.shares k ++ take e.size (drop e.remainder s)))
       unfolding PrefixIs

@@ -1,4 +1,6 @@
 -- The tests of a key in a buffer: the key rule, and the order after the last key.
+use Rattle.std.specs.declared.cmp.Ordering.{Ordering}
+use Rattle.std.specs.declared.cmp.Ordering.TheVariants.{Less, Equal, Greater}
 use Prim.Native.Nat.{ℕ, ◌≤◌, ◌<◌}
 use mathlib.Core.Path.{◌≡◌, sym, ap, ◌∙◌}
 use mathlib.Core.Bool.{Bool, true, false}
@@ -7,8 +9,6 @@ use native.Mathlib.Omega.{arith}
 use lib.ListN.{length, take}
 use borrow.Table.Steps.{cases}
 use Rattle.key.specs.Key.{lawful, less, order}
-use Rattle.key.specs.declared.Order.{Order}
-use Rattle.key.specs.declared.Order.TheVariants.{Less, Equal, Greater}
 use Rattle.key.proofs.Lawful.{long_unlawful}
 use Rattle.key.proofs.Laws.{less_order, order_less}
 use Rattle.page_keys.specs.Buffer.{LawfulIs, RisesIs}
@@ -25,7 +25,7 @@ module _ (buffer : List ℕ) (size : ℕ) where
   key_tested h r e k w = e ∙ ap lawful (holds_whole w h)
 
 -- ---- the order of keys
-not_less : (a b : List ℕ) (o : Order) → o ≡ order a b → (o ≡ Less → ⊥) → false ≡ less a b
+not_less : (a b : List ℕ) (o : Ordering) → o ≡ order a b → (o ≡ Less → ⊥) → false ≡ less a b
 not_less a b o e f = cases (less a b) (λ q. absurd (f (e ∙ less_order a b q))) (λ q. sym q)
 
 module _ (last : List ℕ) (n : ℕ) (buffer : List ℕ) (size : ℕ) where
@@ -37,7 +37,7 @@ module _ (last : List ℕ) (n : ℕ) (buffer : List ℕ) (size : ℕ) where
   unfolding RisesIs
   no_key h j k v w g = absurd (omega arith)
 
-  module _ (o : Order) (e : o ≡ order (take n last) (take size buffer)) where
+  module _ (o : Ordering) (e : o ≡ order (take n last) (take size buffer)) where
     pub key_greater : o ≡ Less → RisesIs last n buffer size true
     unfolding RisesIs
     key_greater q j k v w g = rw (← v.bytes, ← holds_whole w g) (sym (order_less (take n last) (take size buffer) (sym e ∙ q)))

@@ -9,12 +9,11 @@ ghost use Rattle.page.specs.Page.{entry, RawEntry};
 ghost use Rattle.tree.specs.OnePage.{prefixes_of};
 ghost use Rattle.page_keys.specs.Buffer.{Extended, PrefixIs, LawfulIs, RisesIs};
 
-use answer::Answer;
 use bytestring::write_bytes;
-use key::Order;
 use key_calls::slash;
 use key_order::compare;
-use page_reader::{EntryRead, read_entry};
+use page_reader::read_entry;
+use std::cmp::Ordering;
 
 fn lesser(a: usize, b: usize) -> usize
     ensures { result ≡ min a b }
@@ -77,7 +76,7 @@ pub fn prefixes_fit(s: &[u8], first: usize, n: usize, buffer: &mut [u8]) -> bool
     let mut i = 0;
     while i < n {
         match read_entry(s, at) {
-            EntryRead::Entry(e) => {
+            Ok(e) => {
                 let shares = e.shares;
                 let remainder = e.remainder;
                 let length = e.size;
@@ -87,7 +86,7 @@ pub fn prefixes_fit(s: &[u8], first: usize, n: usize, buffer: &mut [u8]) -> bool
                 size = extend_key(buffer, size, s, shares, remainder, length);
                 at = e.end;
             }
-            EntryRead::EntryStop(_) => {
+            Err(_) => {
                 return true;
             }
         }
@@ -105,8 +104,8 @@ pub fn key_is_lawful(buffer: &[u8], size: usize) -> bool
         return false;
     }
     match slash(&buffer[..size]) {
-        Answer::Done(_) => true,
-        Answer::Refused(_) => false,
+        Ok(_) => true,
+        Err(_) => false,
     }
 }
 
@@ -121,9 +120,9 @@ pub fn key_rises(last: &[u8], last_size: usize, buffer: &[u8], size: usize) -> b
         return false;
     }
     match compare(&last[..last_size], &buffer[..size]) {
-        Order::Less => true,
-        Order::Equal => false,
-        Order::Greater => false,
+        Ordering::Less => true,
+        Ordering::Equal => false,
+        Ordering::Greater => false,
     }
 }
 

@@ -1,4 +1,5 @@
 -- The contracts of the readers determine their answers: two answers at one place are equal.
+use Rattle.std.specs.Prelude.{Result, Ok, Err}
 use Prim.Native.Nat.{ℕ, zero, suc, ◌+◌, ◌≤◌, ◌<◌}
 use mathlib.Core.Path.{◌≡◌, refl, sym, ap, ap₂, ◌∙◌}
 use mathlib.Core.List.{List}
@@ -9,14 +10,8 @@ use Rattle.page.specs.Page.{RawEntry, entry, RawPage}
 use Rattle.page_reader.specs.Place.{Reads, read_stop, NumberIs, link_at, EntryHere, EntryIs, PageHere, PageIs}
 use Rattle.page_reader.specs.declared.Stop.{Stop}
 use Rattle.page_reader.specs.declared.Stop.TheVariants.{EndsEarly, Departs}
-use Rattle.page_reader.specs.declared.NumberRead.{NumberRead}
-use Rattle.page_reader.specs.declared.NumberRead.TheVariants.{Number, NumberStop}
 use Rattle.page_reader.specs.declared.EntryAt.{EntryAt}
-use Rattle.page_reader.specs.declared.EntryRead.{EntryRead}
-use Rattle.page_reader.specs.declared.EntryRead.TheVariants.{Entry, EntryStop}
 use Rattle.page_reader.specs.declared.PageAt.{PageAt}
-use Rattle.page_reader.specs.declared.PageRead.{PageRead}
-use Rattle.page_reader.specs.declared.PageRead.TheVariants.{Page, PageStop}
 
 -- ---- what was read, and why not
 same_place : (s : List ℕ) (m n : ℕ) → m ≤ length s → n ≤ length s → drop m s ≡ drop n s → m ≡ n
@@ -38,11 +33,11 @@ not_both a t EndsEarly e = let z : ◌≡◌ {A = ℕ} 0 1 = cc in omega arith
 not_both a t Departs e = let z : ◌≡◌ {A = ℕ} 0 1 = cc in omega arith
 
 -- ---- the answers
-pub number_determined : (p : Reader ℕ) (s : List ℕ) (at : ℕ) (r q : NumberRead) → NumberIs p s at r → NumberIs p s at q → r ≡ q
-number_determined p s at (Number n m) (Number k l) x y = let e = same_read x y in ap₂ (λ (a b : ℕ). Number a b) e.0 e.1
-number_determined p s at (Number n m) (NumberStop stop) x y = absurd (not_both n (drop m s) stop (sym x.reads ∙ y))
-number_determined p s at (NumberStop stop) (Number n m) x y = absurd (not_both n (drop m s) stop (sym y.reads ∙ x))
-number_determined p s at (NumberStop a) (NumberStop b) x y = ap (λ (z : Stop). NumberStop z) (same_stop a b (sym x ∙ y))
+pub number_determined : (p : Reader ℕ) (s : List ℕ) (at : ℕ) (r q : Result (ℕ × ℕ) Stop) → NumberIs p s at r → NumberIs p s at q → r ≡ q
+number_determined p s at (Ok (n, m)) (Ok (k, l)) x y = let e = same_read x y in ap₂ (λ (a b : ℕ). Ok (a, b)) e.0 e.1
+number_determined p s at (Ok (n, m)) (Err stop) x y = absurd (not_both n (drop m s) stop (sym x.reads ∙ y))
+number_determined p s at (Err stop) (Ok (n, m)) x y = absurd (not_both n (drop m s) stop (sym y.reads ∙ x))
+number_determined p s at (Err a) (Err b) x y = ap (λ (z : Stop). Err z) (same_stop a b (sym x ∙ y))
 
 -- links whose digests stand j bytes before one place
 same_link : (s : List ℕ) (m n j k : ℕ) → link_at s m ≡ link_at s n → (0 < m → m + j ≡ k) → (0 < n → n + j ≡ k) → m ≡ n
@@ -61,11 +56,11 @@ same_entry s at d e x y =
     let link : d.link ≡ e.link = same_link s d.link e.link 43 d.value (ap (λ (z : RawEntry). z.after) w.0) x.ends.link (λ z. y.ends.link z ∙ sym value) in
     λ i. record { shares = shares i; remainder = u.1 i; size = u.0 i; link = link i; value = value i; end = w.1 i }
 
-pub entry_determined : (s : List ℕ) (at : ℕ) (r q : EntryRead) → EntryIs s at r → EntryIs s at q → r ≡ q
-entry_determined s at (Entry d) (Entry e) x y = ap (λ (z : EntryAt). Entry z) (same_entry s at d e x y)
-entry_determined s at (Entry d) (EntryStop stop) x y = absurd (not_both _ _ stop (sym x.whole.reads ∙ y))
-entry_determined s at (EntryStop stop) (Entry d) x y = absurd (not_both _ _ stop (sym y.whole.reads ∙ x))
-entry_determined s at (EntryStop a) (EntryStop b) x y = ap (λ (z : Stop). EntryStop z) (same_stop a b (sym x ∙ y))
+pub entry_determined : (s : List ℕ) (at : ℕ) (r q : Result EntryAt Stop) → EntryIs s at r → EntryIs s at q → r ≡ q
+entry_determined s at (Ok d) (Ok e) x y = ap (λ (z : EntryAt). Ok z) (same_entry s at d e x y)
+entry_determined s at (Ok d) (Err stop) x y = absurd (not_both _ _ stop (sym x.whole.reads ∙ y))
+entry_determined s at (Err stop) (Ok d) x y = absurd (not_both _ _ stop (sym y.whole.reads ∙ x))
+entry_determined s at (Err a) (Err b) x y = ap (λ (z : Stop). Err z) (same_stop a b (sym x ∙ y))
 
 same_page : (s : List ℕ) (at : ℕ) (d e : PageAt) → PageHere s at d → PageHere s at e → d ≡ e
 same_page s at d e x y =
@@ -77,8 +72,8 @@ same_page s at d e x y =
     let past : d.past ≡ e.past = same_place s d.past e.past x.row.within y.row.within rest in
     λ i. record { count = u.0 i; first = u.1 i; past = past i; left = left i; end = w.1 i }
 
-pub page_determined : (s : List ℕ) (at : ℕ) (r q : PageRead) → PageIs s at r → PageIs s at q → r ≡ q
-page_determined s at (Page d) (Page e) x y = ap (λ (z : PageAt). Page z) (same_page s at d e x y)
-page_determined s at (Page d) (PageStop stop) x y = absurd (not_both _ _ stop (sym x.whole.reads ∙ y))
-page_determined s at (PageStop stop) (Page d) x y = absurd (not_both _ _ stop (sym y.whole.reads ∙ x))
-page_determined s at (PageStop a) (PageStop b) x y = ap (λ (z : Stop). PageStop z) (same_stop a b (sym x ∙ y))
+pub page_determined : (s : List ℕ) (at : ℕ) (r q : Result PageAt Stop) → PageIs s at r → PageIs s at q → r ≡ q
+page_determined s at (Ok d) (Ok e) x y = ap (λ (z : PageAt). Ok z) (same_page s at d e x y)
+page_determined s at (Ok d) (Err stop) x y = absurd (not_both _ _ stop (sym x.whole.reads ∙ y))
+page_determined s at (Err stop) (Ok d) x y = absurd (not_both _ _ stop (sym y.whole.reads ∙ x))
+page_determined s at (Err a) (Err b) x y = ap (λ (z : Stop). Err z) (same_stop a b (sym x ∙ y))

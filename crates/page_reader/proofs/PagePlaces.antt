@@ -1,4 +1,5 @@
 -- Entries and pages at a place of a slice, in the facts that the branches of the code leave.
+use Rattle.std.specs.Prelude.{Result, Ok, Err}
 use Prim.Native.Nat.{ℕ, suc, ◌+◌, ◌-◌, ◌≤◌, ◌<◌}
 use mathlib.Core.Path.{◌≡◌, refl, sym, ap, subst, ◌∙◌}
 use mathlib.Core.Bool.{Bool, true, false, ◌||◌}
@@ -17,16 +18,7 @@ use Rattle.page.specs.Number.{plain_number, byte_string, array, number}
 use Rattle.page.specs.Page.{gap, codec, value, RawEntry, entry, RawPage, page}
 use Rattle.page_reader.specs.Place.{Reads, read_stop, after, NumberIs, LinkIs, link_at, GapIs, entry_start, entry_end, empty_gap_to_value, entry_at, EntryEndIs, EntryHere, EntryIs, page_start, EntriesHere, EntriesIs, PageIs}
 use Rattle.page_reader.specs.declared.Stop.{Stop}
-use Rattle.page_reader.specs.declared.PlaceRead.{PlaceRead}
-use Rattle.page_reader.specs.declared.PlaceRead.TheVariants.{Place, PlaceStop}
-use Rattle.page_reader.specs.declared.NumberRead.{NumberRead}
-use Rattle.page_reader.specs.declared.NumberRead.TheVariants.{Number, NumberStop}
-use Rattle.page_reader.specs.declared.GapRead.{GapRead}
-use Rattle.page_reader.specs.declared.GapRead.TheVariants.{Gap, GapStop}
 use Rattle.page_reader.specs.declared.EntryAt.{EntryAt}
-use Rattle.page_reader.specs.declared.EntryRead.{EntryRead}
-use Rattle.page_reader.specs.declared.EntryRead.TheVariants.{Entry, EntryStop}
-use Rattle.page_reader.specs.declared.PageRead.TheVariants.{Page}
 use Rattle.page.proofs.Pages.{before_entries, before_left, before_remainder, before_shares, before_gap, before_value}
 use Rattle.page_reader.proofs.Places.{then_stops, then_assoc, reads_on, bytes_there, bytes_end}
 
@@ -62,30 +54,30 @@ pub reads_then : {A B : Type 0} {p : Reader A} {s : List ℕ} {at : ℕ} {a : A}
 reads_then f w = rw w.reads
 
 -- ---- the end of an entry
-module _ (s : List ℕ) (at shares remainder size : ℕ) (m : GapRead) (w : GapIs (after before_gap gap) s at m) where
+module _ (s : List ℕ) (at shares remainder size : ℕ) (m : Result (ℕ × ℕ) Stop) (w : GapIs (after before_gap gap) s at m) where
   abbrev ended : List ℕ → Read RawEntry
   ended = entry_end shares (take size (drop remainder s))
 
   abbrev valued : Option (List ℕ) → List ℕ → Read RawEntry
   valued = with_value shares (take size (drop remainder s))
 
-  pub gap_stopped : (stop : Stop) → m ≡ GapStop stop → ended (drop at s) ≡ read_stop stop
+  pub gap_stopped : (stop : Stop) → m ≡ Err stop → ended (drop at s) ≡ read_stop stop
   gap_stopped stop e = end_steps shares _ (drop at s) ∙ then_stops valued stop (subst (GapIs (after before_gap gap) s at) e w)
 
-  module _ (digest to : ℕ) (e : m ≡ Gap digest to) (n : PlaceRead) (v : LinkIs value_in (after before_value value) 11 s to n) where
-    gap_here : GapIs (after before_gap gap) s at (Gap digest to)
+  module _ (digest to : ℕ) (e : m ≡ Ok (digest, to)) (n : Result ℕ Stop) (v : LinkIs value_in (after before_value value) 11 s to n) where
+    gap_here : GapIs (after before_gap gap) s at (Ok (digest, to))
     gap_here = subst (GapIs (after before_gap gap) s at) e w
 
     value_next : ended (drop at s) ≡ and_then (after before_value value (drop to s)) (λ x u. read (record { shares = shares; remainder = take size (drop remainder s); after = link_at s digest; val = x }) u)
     value_next = end_steps shares _ (drop at s) ∙ reads_then valued gap_here.whole ∙ steps before_value value _ (drop to s)
 
-    pub value_stopped : (stop : Stop) → n ≡ PlaceStop stop → ended (drop at s) ≡ read_stop stop
+    pub value_stopped : (stop : Stop) → n ≡ Err stop → ended (drop at s) ≡ read_stop stop
     value_stopped stop f = value_next ∙ then_stops _ stop (subst (LinkIs value_in (after before_value value) 11 s to) f v)
 
-    pub end_there : (place : ℕ) → n ≡ Place place
-        → EntryEndIs s at shares remainder size (Entry (record { shares = shares; remainder = remainder; size = size; link = digest; value = place; end = place + 32 }))
+    pub end_there : (place : ℕ) → n ≡ Ok place
+        → EntryEndIs s at shares remainder size (Ok (record { shares = shares; remainder = remainder; size = size; link = digest; value = place; end = place + 32 }))
     end_there place f =
-        let x : LinkIs value_in (after before_value value) 11 s to (Place place) = subst (LinkIs value_in (after before_value value) 11 s to) f v in (
+        let x : LinkIs value_in (after before_value value) 11 s to (Ok place) = subst (LinkIs value_in (after before_value value) 11 s to) f v in (
           refl,
           refl,
           refl,
@@ -113,7 +105,7 @@ empty_gap c p r t h = rw h
 module _ (s : List ℕ) (at shares remainder size left : ℕ) (el : left ≡ length s - at) (h : 46 ≤ left) where
   abbrev EmptyGapThere : Type 0
   EmptyGapThere =
-      EntryEndIs s at shares remainder size (Entry (record { shares = shares; remainder = remainder; size = size; link = 0; value = at + 14; end = at + 14 + 32 }))
+      EntryEndIs s at shares remainder size (Ok (record { shares = shares; remainder = remainder; size = size; link = 0; value = at + 14; end = at + 14 + 32 }))
 
   empty_gap_here : (c : ℕ) → is_codec c ≡ true → equal (take (at + 14 - at) (drop at s)) (empty_gap_to_value c) ≡ true → EmptyGapThere
   unfolding link_at
@@ -146,12 +138,12 @@ module _ (s : List ℕ) (at shares remainder size left : ℕ) (el : left ≡ len
       (λ f. empty_gap_here raw refl (rw f at (sym e ∙ q)))
 
 -- ---- an entry
-module _ (s : List ℕ) (at : ℕ) (m : NumberRead) (w : NumberIs entry_start s at m) where
-  pub start_stopped : (stop : Stop) → m ≡ NumberStop stop → entry (drop at s) ≡ read_stop stop
+module _ (s : List ℕ) (at : ℕ) (m : Result (ℕ × ℕ) Stop) (w : NumberIs entry_start s at m) where
+  pub start_stopped : (stop : Stop) → m ≡ Err stop → entry (drop at s) ≡ read_stop stop
   start_stopped stop e = entry_steps (drop at s) ∙ then_stops _ stop (subst (NumberIs entry_start s at) e w)
 
-  module _ (size remainder left : ℕ) (e : m ≡ Number size remainder) (el : left ≡ length s - remainder) where
-    start_here : NumberIs entry_start s at (Number size remainder)
+  module _ (size remainder left : ℕ) (e : m ≡ Ok (size, remainder)) (el : left ≡ length s - remainder) where
+    start_here : NumberIs entry_start s at (Ok (size, remainder))
     start_here = subst (NumberIs entry_start s at) e w
 
     pub remainder_next : entry (drop at s) ≡ and_then (any_bytes size (drop remainder s)) with_shares
@@ -160,28 +152,28 @@ module _ (s : List ℕ) (at : ℕ) (m : NumberRead) (w : NumberIs entry_start s 
     pub remainder_ends : left < size → entry (drop at s) ≡ ends_early
     remainder_ends h = remainder_next ∙ rw (bytes_end s remainder size left el h)
 
-    module _ (h : size ≤ left) (n : NumberRead) (v : NumberIs (after before_shares (number plain_number)) s (remainder + size) n) where
+    module _ (h : size ≤ left) (n : Result (ℕ × ℕ) Stop) (v : NumberIs (after before_shares (number plain_number)) s (remainder + size) n) where
       shares_next : entry (drop at s) ≡ and_then (after before_shares (number plain_number) (drop (remainder + size) s)) (λ p u. entry_end p (take size (drop remainder s)) u)
       shares_next = remainder_next ∙ rw (bytes_there s remainder size left el h) (steps before_shares (number plain_number) _ (drop (remainder + size) s))
 
-      pub shares_stopped : (stop : Stop) → n ≡ NumberStop stop → entry (drop at s) ≡ read_stop stop
+      pub shares_stopped : (stop : Stop) → n ≡ Err stop → entry (drop at s) ≡ read_stop stop
       shares_stopped stop f = shares_next ∙ then_stops _ stop (subst (NumberIs (after before_shares (number plain_number)) s (remainder + size)) f v)
 
-      module _ (shares to : ℕ) (f : n ≡ Number shares to) where
-        shares_here : NumberIs (after before_shares (number plain_number)) s (remainder + size) (Number shares to)
+      module _ (shares to : ℕ) (f : n ≡ Ok (shares, to)) where
+        shares_here : NumberIs (after before_shares (number plain_number)) s (remainder + size) (Ok (shares, to))
         shares_here = subst (NumberIs (after before_shares (number plain_number)) s (remainder + size)) f v
 
         pub end_next : entry (drop at s) ≡ entry_end shares (take size (drop remainder s)) (drop to s)
         end_next = shares_next ∙ reads_then _ shares_here
 
-        pub entry_there : (r : EntryRead) → EntryEndIs s to shares remainder size r → EntryIs s at r
-        entry_there (Entry e) x = record {
+        pub entry_there : (r : Result EntryAt Stop) → EntryEndIs s to shares remainder size r → EntryIs s at r
+        entry_there (Ok e) x = record {
           start = rw (x.1, x.2) start_here;
           inside = omega (arith, x.1, x.2, shares_here.ahead, x.3.whole.ahead);
           whole = reads_on (omega (arith, start_here.ahead, shares_here.ahead)) (end_next ∙ rw (x.0, x.1, x.2)) x.3.whole;
           ends = x.3.ends;
         }
-        entry_there (EntryStop stop) x = end_next ∙ x
+        entry_there (Err stop) x = end_next ∙ x
 
 -- ---- entries
 -- i of them were read, up to a place
@@ -211,7 +203,7 @@ entries_none count s at h = record {
 }
 
 module _ (count : ℕ) (s : List ℕ) (at next i : ℕ) (l : EntriesSoFar count s at next i) where
-  pub entries_all : count ≤ i → i ≤ count → EntriesIs count s at (Place next)
+  pub entries_all : count ≤ i → i ≤ count → EntriesIs count s at (Ok next)
   unfolding times
   entries_all h k =
       let none_left : count - i ≡ 0 = omega arith in
@@ -222,17 +214,17 @@ module _ (count : ℕ) (s : List ℕ) (at next i : ℕ) (l : EntriesSoFar count 
         within = l.within;
       }
 
-  module _ (h : i < count) (m : EntryRead) (w : EntryIs s next m) where
+  module _ (h : i < count) (m : Result EntryAt Stop) (w : EntryIs s next m) where
     entry_next : times (count - i) entry (drop next s)
         ≡ and_then (entry (drop next s)) (λ e t. and_then (times (count - (i + 1)) entry t) (λ k u. read (e ∷ k) u))
     unfolding times
     entry_next = let one_less : count - i ≡ suc (count - (i + 1)) = omega arith in rw one_less
 
-    pub entry_stopped : (stop : Stop) → m ≡ EntryStop stop → times count entry (drop at s) ≡ read_stop stop
+    pub entry_stopped : (stop : Stop) → m ≡ Err stop → times count entry (drop at s) ≡ read_stop stop
     entry_stopped stop e =
         l.reads ∙ rw entry_next (then_stops _ stop (then_stops _ stop (subst (EntryIs s next) e w)))
 
-    pub entries_more : (e : EntryAt) → m ≡ Entry e → EntriesSoFar count s at e.end (i + 1)
+    pub entries_more : (e : EntryAt) → m ≡ Ok e → EntriesSoFar count s at e.end (i + 1)
     entries_more e q =
         let x : EntryHere s next e = subst (EntryIs s next) q w in
         record {
@@ -243,33 +235,33 @@ module _ (count : ℕ) (s : List ℕ) (at next i : ℕ) (l : EntriesSoFar count 
         }
 
 -- ---- a page
-module _ (s : List ℕ) (at : ℕ) (m : NumberRead) (w : NumberIs page_start s at m) where
-  pub count_stopped : (stop : Stop) → m ≡ NumberStop stop → page (drop at s) ≡ read_stop stop
+module _ (s : List ℕ) (at : ℕ) (m : Result (ℕ × ℕ) Stop) (w : NumberIs page_start s at m) where
+  pub count_stopped : (stop : Stop) → m ≡ Err stop → page (drop at s) ≡ read_stop stop
   count_stopped stop e = page_steps (drop at s) ∙ then_stops _ stop (subst (NumberIs page_start s at) e w)
 
-  module _ (count first : ℕ) (e : m ≡ Number count first) (n : PlaceRead) (v : EntriesIs count s first n) where
-    count_here : NumberIs page_start s at (Number count first)
+  module _ (count first : ℕ) (e : m ≡ Ok (count, first)) (n : Result ℕ Stop) (v : EntriesIs count s first n) where
+    count_here : NumberIs page_start s at (Ok (count, first))
     count_here = subst (NumberIs page_start s at) e w
 
     entries_next : page (drop at s) ≡ and_then (times count entry (drop first s)) with_left
     entries_next = page_steps (drop at s) ∙ reads_then _ count_here
 
-    pub entries_stopped : (stop : Stop) → n ≡ PlaceStop stop → page (drop at s) ≡ read_stop stop
+    pub entries_stopped : (stop : Stop) → n ≡ Err stop → page (drop at s) ≡ read_stop stop
     entries_stopped stop f = entries_next ∙ then_stops _ stop (subst (EntriesIs count s first) f v)
 
-    module _ (past : ℕ) (f : n ≡ Place past) (k : GapRead) (x : GapIs (after before_left gap) s past k) where
+    module _ (past : ℕ) (f : n ≡ Ok past) (k : Result (ℕ × ℕ) Stop) (x : GapIs (after before_left gap) s past k) where
       entries_here : EntriesHere count s first past
       entries_here = subst (EntriesIs count s first) f v
 
       left_next : page (drop at s) ≡ and_then (after before_left gap (drop past s)) (λ g u. read (record { entries = entries_here.entries; left = g }) u)
       left_next = entries_next ∙ rw entries_here.reads (steps before_left gap _ (drop past s))
 
-      pub left_stopped : (stop : Stop) → k ≡ GapStop stop → page (drop at s) ≡ read_stop stop
+      pub left_stopped : (stop : Stop) → k ≡ Err stop → page (drop at s) ≡ read_stop stop
       left_stopped stop q = left_next ∙ then_stops _ stop (subst (GapIs (after before_left gap) s past) q x)
 
-      pub page_there : (left end : ℕ) → k ≡ Gap left end → PageIs s at (Page (record { count = count; first = first; past = past; left = left; end = end }))
+      pub page_there : (left end : ℕ) → k ≡ Ok (left, end) → PageIs s at (Ok (record { count = count; first = first; past = past; left = left; end = end }))
       page_there left end q =
-          let y : GapIs (after before_left gap) s past (Gap left end) = subst (GapIs (after before_left gap) s past) q x in
+          let y : GapIs (after before_left gap) s past (Ok (left, end)) = subst (GapIs (after before_left gap) s past) q x in
           record {
             start = count_here;
             row = entries_here;
@@ -282,5 +274,5 @@ module _ (s : List ℕ) (at : ℕ) (m : NumberRead) (w : NumberIs page_start s a
             left = y.last;
           }
 
-pub first_within : (p : Reader ℕ) (s : List ℕ) (at n to : ℕ) (m : NumberRead) → NumberIs p s at m → m ≡ Number n to → to ≤ length s
+pub first_within : (p : Reader ℕ) (s : List ℕ) (at n to : ℕ) (m : Result (ℕ × ℕ) Stop) → NumberIs p s at m → m ≡ Ok (n, to) → to ≤ length s
 first_within p s at n to m w e = (subst (NumberIs p s at) e w).within

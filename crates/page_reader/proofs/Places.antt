@@ -1,4 +1,5 @@
 -- Readers at a place of a slice: what each gives, in the facts that the branches of the code leave.
+use Rattle.std.specs.Prelude.{Result, Ok, Err}
 use Prim.Native.Nat.{ℕ, zero, suc, ◌+◌, ◌-◌, ◌*◌, ◌≤◌, ◌<◌}
 use mathlib.Core.Path.{◌≡◌, refl, sym, ap, subst, ◌∙◌}
 use mathlib.Core.Bool.{Bool, true, false, cond}
@@ -19,12 +20,6 @@ use Rattle.page.specs.Page.{before_codec, after_codec, link, null, gap, codec, v
 use Rattle.page_reader.specs.Place.{Reads, read_stop, after, ExactIs, NumberIs, LinkIs, value_end, link_at, GapIs}
 use Rattle.page_reader.specs.declared.Stop.{Stop}
 use Rattle.page_reader.specs.declared.Stop.TheVariants.{EndsEarly, Departs}
-use Rattle.page_reader.specs.declared.PlaceRead.{PlaceRead}
-use Rattle.page_reader.specs.declared.PlaceRead.TheVariants.{Place, PlaceStop}
-use Rattle.page_reader.specs.declared.NumberRead.{NumberRead}
-use Rattle.page_reader.specs.declared.NumberRead.TheVariants.{Number, NumberStop}
-use Rattle.page_reader.specs.declared.GapRead.{GapRead}
-use Rattle.page_reader.specs.declared.GapRead.TheVariants.{Gap, GapStop}
 use Rattle.page.proofs.Numbers.{low_departs, first_reads, one_follows, two_follow, high_departs}
 
 -- ---- any reader
@@ -47,9 +42,9 @@ then_assoc departs f g = refl
 pub reads_on : {A : Type 0} {p q : Reader A} {s : List ℕ} {at to end : ℕ} {a : A} → at ≤ to → q (drop at s) ≡ p (drop to s) → Reads p s to a end → Reads q s at a end
 reads_on h e w = record { reads = e ∙ w.reads; ahead = omega (arith, w.ahead); within = w.within }
 
-number_on : (p q : Reader ℕ) (s : List ℕ) (at to : ℕ) → at ≤ to → q (drop at s) ≡ p (drop to s) → (r : NumberRead) → NumberIs p s to r → NumberIs q s at r
-number_on p q s at to h e (Number n end) w = reads_on h e w
-number_on p q s at to h e (NumberStop stop) w = e ∙ w
+number_on : (p q : Reader ℕ) (s : List ℕ) (at to : ℕ) → at ≤ to → q (drop at s) ≡ p (drop to s) → (r : Result (ℕ × ℕ) Stop) → NumberIs p s to r → NumberIs q s at r
+number_on p q s at to h e (Ok (n, end)) w = reads_on h e w
+number_on p q s at to h e (Err stop) w = e ∙ w
 
 -- ---- fixed bytes
 -- the first of them are compared with as many bytes, and the others are read after those
@@ -63,7 +58,7 @@ exact_compared (c ∷ p) q (b ∷ a) r e =
 
 module _ (bytes s : List ℕ) (at : ℕ) where
   -- there are none
-  pub exact_empty : length bytes ≡ 0 → ExactIs bytes s at (Place at)
+  pub exact_empty : length bytes ≡ 0 → ExactIs bytes s at (Ok at)
   unfolding exactly
   exact_empty h = let e : bytes ≡ [] = drop_of_length-le bytes {i = 0} (omega arith) in (rw e, omega arith)
 
@@ -79,7 +74,7 @@ module _ (bytes s : List ℕ) (at : ℕ) where
       compared : equal (take (length bytes) (drop at s)) bytes ≡ r
       compared = let n : to - at ≡ length bytes = omega arith in sym (rw n at e)
 
-      pub exact_there : r ≡ true → ExactIs bytes s at (Place to)
+      pub exact_there : r ≡ true → ExactIs bytes s at (Ok to)
       exact_there q = (exact_whole ∙ rw (compared, q, f), f)
 
       pub exact_differs : r ≡ false → exactly bytes (drop at s) ≡ departs
@@ -187,22 +182,22 @@ module _ (s : List ℕ) (at kind b least : ℕ) (h : at < length s) (e : b ≡ g
       within = omega arith;
     }
 
-    pub number_one : b - least ≡ 24 → (r : NumberRead) → NumberIs one_byte s (at + 1) r → NumberIs (number kind) s at r
+    pub number_one : b - least ≡ 24 → (r : Result (ℕ × ℕ) Stop) → NumberIs one_byte s (at + 1) r → NumberIs (number kind) s at r
     number_one m = number_on one_byte (number kind) s at (at + 1) (omega arith) (rw (byte_at s at b h e) (one_follows kind b (drop (at + 1) s) (omega arith)))
 
-    pub number_two : b - least ≡ 25 → (r : NumberRead) → NumberIs two_bytes s (at + 1) r → NumberIs (number kind) s at r
+    pub number_two : b - least ≡ 25 → (r : Result (ℕ × ℕ) Stop) → NumberIs two_bytes s (at + 1) r → NumberIs (number kind) s at r
     number_two m = number_on two_bytes (number kind) s at (at + 1) (omega arith) (rw (byte_at s at b h e) (two_follow kind b (drop (at + 1) s) (omega arith)))
 
     pub number_high : 24 ≤ b - least → (b - least ≡ 24 → ⊥) → (b - least ≡ 25 → ⊥) → number kind (drop at s) ≡ departs
     number_high m f g = rw (byte_at s at b h e) (high_departs kind b (drop (at + 1) s) (omega arith))
 
 -- ---- fixed bytes, and then another reader
-module _ (bytes s : List ℕ) (at : ℕ) (m : PlaceRead) (w : ExactIs bytes s at m) where
-  pub stop_after : {A : Type 0} (p : Reader A) (stop : Stop) → m ≡ PlaceStop stop → after bytes p (drop at s) ≡ read_stop stop
+module _ (bytes s : List ℕ) (at : ℕ) (m : Result ℕ Stop) (w : ExactIs bytes s at m) where
+  pub stop_after : {A : Type 0} (p : Reader A) (stop : Stop) → m ≡ Err stop → after bytes p (drop at s) ≡ read_stop stop
   stop_after p stop e = then_stops (λ _ t. p t) stop (subst (ExactIs bytes s at) e w)
 
-  module _ (to : ℕ) (e : m ≡ Place to) where
-    exact_here : ExactIs bytes s at (Place to)
+  module _ (to : ℕ) (e : m ≡ Ok to) where
+    exact_here : ExactIs bytes s at (Ok to)
     exact_here = subst (ExactIs bytes s at) e w
 
     to_later : at ≤ to
@@ -211,33 +206,33 @@ module _ (bytes s : List ℕ) (at : ℕ) (m : PlaceRead) (w : ExactIs bytes s at
     pub after_is : {A : Type 0} (p : Reader A) → after bytes p (drop at s) ≡ p (drop to s)
     after_is p = rw exact_here.0
 
-    pub number_after : (p : Reader ℕ) (r : NumberRead) → NumberIs p s to r → NumberIs (after bytes p) s at r
+    pub number_after : (p : Reader ℕ) (r : Result (ℕ × ℕ) Stop) → NumberIs p s to r → NumberIs (after bytes p) s at r
     number_after p = number_on p (after bytes p) s at to to_later (after_is p)
 
-    pub link_after : (stands : List ℕ → ℕ → List ℕ) (p : Reader (List ℕ)) (before : ℕ) (r : PlaceRead)
+    pub link_after : (stands : List ℕ → ℕ → List ℕ) (p : Reader (List ℕ)) (before : ℕ) (r : Result ℕ Stop)
         → LinkIs stands p before s to r → LinkIs stands (after bytes p) (length bytes + before) s at r
-    link_after stands p before (Place digest) v =
+    link_after stands p before (Ok digest) v =
         record { whole = reads_on to_later (after_is p) v.whole; head = omega (arith, v.head, exact_here.1) }
-    link_after stands p before (PlaceStop stop) v = after_is p ∙ v
+    link_after stands p before (Err stop) v = after_is p ∙ v
 
-    pub gap_after : (p : Reader (Option (List ℕ))) (r : GapRead) → GapIs p s to r → GapIs (after bytes p) s at r
-    gap_after p (Gap digest end) v = record { whole = reads_on to_later (after_is p) v.whole; last = v.last }
-    gap_after p (GapStop stop) v = after_is p ∙ v
+    pub gap_after : (p : Reader (Option (List ℕ))) (r : Result (ℕ × ℕ) Stop) → GapIs p s to r → GapIs (after bytes p) s at r
+    gap_after p (Ok (digest, end)) v = record { whole = reads_on to_later (after_is p) v.whole; last = v.last }
+    gap_after p (Err stop) v = after_is p ∙ v
 
     -- so many bytes are left behind them
     module _ (left : ℕ) (el : left ≡ length s - to) where
       pub digest_ends : left < 32 → after bytes (any_bytes 32) (drop at s) ≡ ends_early
       digest_ends h = after_is (any_bytes 32) ∙ bytes_end s to 32 left el h
 
-      pub digest_there : 32 ≤ left → LinkIs digest_in (after bytes (any_bytes 32)) (length bytes) s at (Place to)
+      pub digest_there : 32 ≤ left → LinkIs digest_in (after bytes (any_bytes 32)) (length bytes) s at (Ok to)
       digest_there h = record {
         whole = record { reads = after_is (any_bytes 32) ∙ bytes_there s to 32 left el h; ahead = omega (arith, to_later); within = omega arith };
         head = omega (arith, exact_here.1);
       }
 
 -- ---- links
-pub digest_within : (stands : List ℕ → ℕ → List ℕ) (p : Reader (List ℕ)) (before : ℕ) (s : List ℕ) (at digest : ℕ) (m : PlaceRead)
-    → LinkIs stands p before s at m → m ≡ Place digest → digest + 32 ≤ length s
+pub digest_within : (stands : List ℕ → ℕ → List ℕ) (p : Reader (List ℕ)) (before : ℕ) (s : List ℕ) (at digest : ℕ) (m : Result ℕ Stop)
+    → LinkIs stands p before s at m → m ≡ Ok digest → digest + 32 ≤ length s
 digest_within stands p before s at digest m w e = (subst (LinkIs stands p before s at) e w).whole.within
 
 -- ---- values, from the codec on
@@ -257,22 +252,22 @@ module _ (s : List ℕ) (at : ℕ) (h : at < length s) (r : Bool) (e : r ≡ is_
         rw (byte_at s at (get_or s at 0) h refl, sym e, q)
         (then_assoc (exactly after_codec (drop (at + 1) s)) (λ _ t. any_bytes 32 t) (λ d t. read (get_or s at 0 ∷ d) t))
 
-    pub value_end_lem : (m : PlaceRead) → LinkIs digest_in (after after_codec (any_bytes 32)) 2 s (at + 1) m → LinkIs value_in value_end 3 s at m
-    value_end_lem (Place digest) w =
+    pub value_end_lem : (m : Result ℕ Stop) → LinkIs digest_in (after after_codec (any_bytes 32)) 2 s (at + 1) m → LinkIs value_in value_end 3 s at m
+    value_end_lem (Ok digest) w =
         let n : digest - 3 ≡ at = omega (arith, w.head) in
         record {
           whole = record { reads = codec_passed ∙ rw (w.whole.reads, n); ahead = omega (arith, w.whole.ahead); within = w.whole.within };
           head = omega (arith, w.head);
         }
-    value_end_lem (PlaceStop stop) w = codec_passed ∙ then_stops _ stop w
+    value_end_lem (Err stop) w = codec_passed ∙ then_stops _ stop w
 
 -- ---- values
-module _ (s : List ℕ) (at : ℕ) (m : PlaceRead) (w : ExactIs before_codec s at m) where
-  pub value_stops : (stop : Stop) → m ≡ PlaceStop stop → value (drop at s) ≡ read_stop stop
+module _ (s : List ℕ) (at : ℕ) (m : Result ℕ Stop) (w : ExactIs before_codec s at m) where
+  pub value_stops : (stop : Stop) → m ≡ Err stop → value (drop at s) ≡ read_stop stop
   unfolding value value_end
   value_stops = stop_after before_codec s at m w value_end
 
-  pub value_from_codec : (to : ℕ) → m ≡ Place to → (r : PlaceRead) → LinkIs value_in value_end 3 s to r → LinkIs value_in value 9 s at r
+  pub value_from_codec : (to : ℕ) → m ≡ Ok to → (r : Result ℕ Stop) → LinkIs value_in value_end 3 s to r → LinkIs value_in value 9 s at r
   unfolding value value_end
   value_from_codec to e = link_after before_codec s at m w to e value_in value_end 3
 
@@ -287,7 +282,7 @@ unfolding gap
 gap_none s at h = rw (drop_of_length-le s h)
 
 module _ (s : List ℕ) (at : ℕ) (h : at < length s) where
-  pub gap_null : get_or s at 0 ≡ null → GapIs gap s at (Gap 0 (at + 1))
+  pub gap_null : get_or s at 0 ≡ null → GapIs gap s at (Ok (0, at + 1))
   unfolding gap link_at
   gap_null e = record {
     whole = record { reads = rw (drop-cons s at 0 h, eq-eqb (get_or s at 0) null e, add-one at); ahead = omega arith; within = omega arith };
@@ -299,13 +294,13 @@ module _ (s : List ℕ) (at : ℕ) (h : at < length s) where
     unfolding gap
     link_follows = rw (drop-cons s at 0 h, ne_eqb (get_or s at 0) null f)
 
-    module _ (m : PlaceRead) (w : LinkIs digest_in link 9 s at m) where
-      pub gap_stops : (stop : Stop) → m ≡ PlaceStop stop → gap (drop at s) ≡ read_stop stop
+    module _ (m : Result ℕ Stop) (w : LinkIs digest_in link 9 s at m) where
+      pub gap_stops : (stop : Stop) → m ≡ Err stop → gap (drop at s) ≡ read_stop stop
       gap_stops stop e = link_follows ∙ then_stops (λ d t. read (some d) t) stop (subst (LinkIs digest_in link 9 s at) e w)
 
-      pub gap_there : (digest : ℕ) → m ≡ Place digest → GapIs gap s at (Gap digest (digest + 32))
+      pub gap_there : (digest : ℕ) → m ≡ Ok digest → GapIs gap s at (Ok (digest, digest + 32))
       gap_there digest e =
-          let v : LinkIs digest_in link 9 s at (Place digest) = subst (LinkIs digest_in link 9 s at) e w in
+          let v : LinkIs digest_in link 9 s at (Ok digest) = subst (LinkIs digest_in link 9 s at) e w in
           record {
             whole = record {
               reads = link_follows ∙ rw v.whole.reads (ap (λ (g : Option (List ℕ)). read g (drop (digest + 32) s)) (some_link s digest (omega (arith, v.head))));

@@ -1,5 +1,5 @@
 -- What the readers at a place of a slice answer. The bytes of a slice s from place `at` on are `drop at s`.
-use Rattle.std.specs.Prelude.{ℕ, zero, suc, ◌+◌, ◌≤◌, ◌<◌, ◌≡◌, List, [], ◌∷◌, length, take, drop}
+use Rattle.std.specs.Prelude.{ℕ, zero, suc, ◌+◌, ◌≤◌, ◌<◌, ◌≡◌, List, [], ◌∷◌, length, take, drop, Result, Ok, Err}
 use Rattle.std.proofs.Math.Option.{Option, none, some}
 use Rattle.limits.specs.Limits.{numbers}
 use Rattle.value.specs.Value.{digest_length, value_in}
@@ -8,18 +8,8 @@ use Rattle.page.specs.Number.{number, byte_string, array}
 use Rattle.page.specs.Page.{after_codec, link_head, null, gap, codec, value, RawEntry, entry, page}
 use Rattle.page_reader.specs.declared.Stop.{Stop}
 use Rattle.page_reader.specs.declared.Stop.TheVariants.{EndsEarly, Departs}
-use Rattle.page_reader.specs.declared.PlaceRead.{PlaceRead}
-use Rattle.page_reader.specs.declared.PlaceRead.TheVariants.{Place, PlaceStop}
-use Rattle.page_reader.specs.declared.NumberRead.{NumberRead}
-use Rattle.page_reader.specs.declared.NumberRead.TheVariants.{Number, NumberStop}
-use Rattle.page_reader.specs.declared.GapRead.{GapRead}
-use Rattle.page_reader.specs.declared.GapRead.TheVariants.{Gap, GapStop}
 use Rattle.page_reader.specs.declared.EntryAt.{EntryAt}
-use Rattle.page_reader.specs.declared.EntryRead.{EntryRead}
-use Rattle.page_reader.specs.declared.EntryRead.TheVariants.{Entry, EntryStop}
 use Rattle.page_reader.specs.declared.PageAt.{PageAt}
-use Rattle.page_reader.specs.declared.PageRead.{PageRead}
-use Rattle.page_reader.specs.declared.PageRead.TheVariants.{Page, PageStop}
 
 -- Reader p reads a from place `at` of s to before place `to`.
 pub record Reads {A : Type 0} (p : Reader A) (s : List ℕ) (at : ℕ) (a : A) (to : ℕ) : Type 0 where
@@ -37,14 +27,14 @@ abbrev pub after : {A : Type 0} → List ℕ → Reader A → Reader A
 after bytes p = exactly bytes >> p
 
 -- Fixed bytes: the place after them.
-abbrev pub ExactIs : List ℕ → List ℕ → ℕ → PlaceRead → Type 0
-ExactIs bytes s at (Place to) = (exactly bytes (drop at s) ≡ read tt (drop to s)) × (to ≡ at + length bytes)
-ExactIs bytes s at (PlaceStop stop) = exactly bytes (drop at s) ≡ read_stop stop
+abbrev pub ExactIs : List ℕ → List ℕ → ℕ → Result ℕ Stop → Type 0
+ExactIs bytes s at (Ok to) = (exactly bytes (drop at s) ≡ read tt (drop to s)) × (to ≡ at + length bytes)
+ExactIs bytes s at (Err stop) = exactly bytes (drop at s) ≡ read_stop stop
 
 -- A number, and the place after it.
-abbrev pub NumberIs : Reader ℕ → List ℕ → ℕ → NumberRead → Type 0
-NumberIs p s at (Number n to) = Reads p s at n to
-NumberIs p s at (NumberStop stop) = p (drop at s) ≡ read_stop stop
+abbrev pub NumberIs : Reader ℕ → List ℕ → ℕ → Result (ℕ × ℕ) Stop → Type 0
+NumberIs p s at (Ok (n, to)) = Reads p s at n to
+NumberIs p s at (Err stop) = p (drop at s) ≡ read_stop stop
 
 -- A link: the place of its digest, which comes after `before` bytes and ends the link. What is read is what `stands` says of that place:
 -- the digest of a page, or a value, whose codec stands before its digest.
@@ -52,9 +42,9 @@ pub record LinkHere (stands : List ℕ → ℕ → List ℕ) (p : Reader (List �
   pub whole : Reads p s at (stands s digest) (digest + 32)
   pub head : at + before ≡ digest
 
-abbrev pub LinkIs : (List ℕ → ℕ → List ℕ) → Reader (List ℕ) → ℕ → List ℕ → ℕ → PlaceRead → Type 0
-LinkIs stands p before s at (Place digest) = LinkHere stands p before s at digest
-LinkIs stands p before s at (PlaceStop stop) = p (drop at s) ≡ read_stop stop
+abbrev pub LinkIs : (List ℕ → ℕ → List ℕ) → Reader (List ℕ) → ℕ → List ℕ → ℕ → Result ℕ Stop → Type 0
+LinkIs stands p before s at (Ok digest) = LinkHere stands p before s at digest
+LinkIs stands p before s at (Err stop) = p (drop at s) ≡ read_stop stop
 
 -- A value from its codec on.
 unfoldable pub value_end : Reader (List ℕ)
@@ -74,9 +64,9 @@ pub record GapHere (p : Reader (Option (List ℕ))) (s : List ℕ) (at digest to
   pub whole : Reads p s at (link_at s digest) to
   pub last : 0 < digest → digest + 32 ≡ to
 
-abbrev pub GapIs : Reader (Option (List ℕ)) → List ℕ → ℕ → GapRead → Type 0
-GapIs p s at (Gap digest to) = GapHere p s at digest to
-GapIs p s at (GapStop stop) = p (drop at s) ≡ read_stop stop
+abbrev pub GapIs : Reader (Option (List ℕ)) → List ℕ → ℕ → Result (ℕ × ℕ) Stop → Type 0
+GapIs p s at (Ok (digest, to)) = GapHere p s at digest to
+GapIs p s at (Err stop) = p (drop at s) ≡ read_stop stop
 
 -- The start of an entry: the number of bytes in its key's remainder, which follows.
 abbrev pub entry_start : Reader ℕ
@@ -110,9 +100,9 @@ pub record EntryEndHere (s : List ℕ) (at : ℕ) (e : EntryAt) : Type 0 where
   pub whole : Reads (entry_end e.shares (take e.size (drop e.remainder s))) s at (entry_at s e) e.end
   pub ends : Ends e
 
-abbrev pub EntryEndIs : List ℕ → ℕ → ℕ → ℕ → ℕ → EntryRead → Type 0
-EntryEndIs s at shares remainder size (Entry e) = (e.shares ≡ shares) × (e.remainder ≡ remainder) × (e.size ≡ size) × EntryEndHere s at e
-EntryEndIs s at shares remainder size (EntryStop stop) = entry_end shares (take size (drop remainder s)) (drop at s) ≡ read_stop stop
+abbrev pub EntryEndIs : List ℕ → ℕ → ℕ → ℕ → ℕ → Result EntryAt Stop → Type 0
+EntryEndIs s at shares remainder size (Ok e) = (e.shares ≡ shares) × (e.remainder ≡ remainder) × (e.size ≡ size) × EntryEndHere s at e
+EntryEndIs s at shares remainder size (Err stop) = entry_end shares (take size (drop remainder s)) (drop at s) ≡ read_stop stop
 
 -- An entry: where its parts stand.
 pub record EntryHere (s : List ℕ) (at : ℕ) (e : EntryAt) : Type 0 where
@@ -121,9 +111,9 @@ pub record EntryHere (s : List ℕ) (at : ℕ) (e : EntryAt) : Type 0 where
   pub whole : Reads entry s at (entry_at s e) e.end
   pub ends : Ends e
 
-abbrev pub EntryIs : List ℕ → ℕ → EntryRead → Type 0
-EntryIs s at (Entry e) = EntryHere s at e
-EntryIs s at (EntryStop stop) = entry (drop at s) ≡ read_stop stop
+abbrev pub EntryIs : List ℕ → ℕ → Result EntryAt Stop → Type 0
+EntryIs s at (Ok e) = EntryHere s at e
+EntryIs s at (Err stop) = entry (drop at s) ≡ read_stop stop
 
 -- The end of an entry whose key was located, by places that are in the slice in any case. Where such an end is read there, they are its
 -- parts.
@@ -133,9 +123,9 @@ pub record LocatedEnd (s : List ℕ) (at : ℕ) (e : EntryAt) : Type 0 where
   pub ends : Ends e
   pub here : (a : RawEntry) (t : List ℕ) → entry_end e.shares (take e.size (drop e.remainder s)) (drop at s) ≡ read a t → EntryEndHere s at e
 
-abbrev pub LocatedEndIs : List ℕ → ℕ → ℕ → ℕ → ℕ → EntryRead → Type 0
-LocatedEndIs s at shares remainder size (Entry e) = (e.shares ≡ shares) × (e.remainder ≡ remainder) × (e.size ≡ size) × LocatedEnd s at e
-LocatedEndIs s at shares remainder size (EntryStop stop) = (a : RawEntry) (t : List ℕ) → entry_end shares (take size (drop remainder s)) (drop at s) ≡ read a t → ⊥
+abbrev pub LocatedEndIs : List ℕ → ℕ → ℕ → ℕ → ℕ → Result EntryAt Stop → Type 0
+LocatedEndIs s at shares remainder size (Ok e) = (e.shares ≡ shares) × (e.remainder ≡ remainder) × (e.size ≡ size) × LocatedEnd s at e
+LocatedEndIs s at shares remainder size (Err stop) = (a : RawEntry) (t : List ℕ) → entry_end shares (take size (drop remainder s)) (drop at s) ≡ read a t → ⊥
 
 -- The parts of an entry, by places that are in the slice in any case. Where an entry is read there, they are its parts.
 pub record Located (s : List ℕ) (at : ℕ) (e : EntryAt) : Type 0 where
@@ -147,9 +137,9 @@ pub record Located (s : List ℕ) (at : ℕ) (e : EntryAt) : Type 0 where
   pub ends : Ends e
   pub here : (a : RawEntry) (to : ℕ) → Reads entry s at a to → EntryHere s at e
 
-abbrev pub LocatedIs : List ℕ → ℕ → EntryRead → Type 0
-LocatedIs s at (Entry e) = Located s at e
-LocatedIs s at (EntryStop stop) = (a : RawEntry) (to : ℕ) → Reads entry s at a to → ⊥
+abbrev pub LocatedIs : List ℕ → ℕ → Result EntryAt Stop → Type 0
+LocatedIs s at (Ok e) = Located s at e
+LocatedIs s at (Err stop) = (a : RawEntry) (to : ℕ) → Reads entry s at a to → ⊥
 
 -- The start of a page: the number of its entries, which follow.
 abbrev pub page_start : Reader ℕ
@@ -162,9 +152,9 @@ pub record EntriesHere (count : ℕ) (s : List ℕ) (at past : ℕ) : Type 0 whe
   pub ahead : at + count ≤ past
   pub within : past ≤ length s
 
-abbrev pub EntriesIs : ℕ → List ℕ → ℕ → PlaceRead → Type 0
-EntriesIs count s at (Place past) = EntriesHere count s at past
-EntriesIs count s at (PlaceStop stop) = times count entry (drop at s) ≡ read_stop stop
+abbrev pub EntriesIs : ℕ → List ℕ → ℕ → Result ℕ Stop → Type 0
+EntriesIs count s at (Ok past) = EntriesHere count s at past
+EntriesIs count s at (Err stop) = times count entry (drop at s) ≡ read_stop stop
 
 -- A page: where its parts stand.
 pub record PageHere (s : List ℕ) (at : ℕ) (p : PageAt) : Type 0 where
@@ -174,6 +164,6 @@ pub record PageHere (s : List ℕ) (at : ℕ) (p : PageAt) : Type 0 where
   pub inside : p.past < p.end
   pub left : 0 < p.left → p.left + 32 ≡ p.end
 
-abbrev pub PageIs : List ℕ → ℕ → PageRead → Type 0
-PageIs s at (Page p) = PageHere s at p
-PageIs s at (PageStop stop) = page (drop at s) ≡ read_stop stop
+abbrev pub PageIs : List ℕ → ℕ → Result PageAt Stop → Type 0
+PageIs s at (Ok p) = PageHere s at p
+PageIs s at (Err stop) = page (drop at s) ≡ read_stop stop

@@ -44,27 +44,6 @@ pub enum Stop {
     Departs,
 }
 
-// A place: after what was read, or of a digest.
-#[derive(Clone, Copy)]
-enum PlaceRead {
-    Place(usize),
-    PlaceStop(Stop),
-}
-
-// A number, and the place after it.
-#[derive(Clone, Copy)]
-pub enum NumberRead {
-    Number(usize, usize),
-    NumberStop(Stop),
-}
-
-// The place of the digest of a gap's link, or 0 where the gap is empty; and the place after it.
-#[derive(Clone, Copy)]
-enum GapRead {
-    Gap(usize, usize),
-    GapStop(Stop),
-}
-
 // Where the parts of an entry stand: its key's remainder, which has size bytes; the digest of the link of the gap after it, or 0;
 // the digest of its value. The entry ends before the place end.
 #[derive(Clone, Copy)]
@@ -77,12 +56,6 @@ pub struct EntryAt {
     pub end: usize,
 }
 
-#[derive(Clone, Copy)]
-pub enum EntryRead {
-    Entry(EntryAt),
-    EntryStop(Stop),
-}
-
 // Where the parts of a page stand: its count entries, from first to before past; the digest of its left link, or 0. The page ends
 // before the place end.
 #[derive(Clone, Copy)]
@@ -92,26 +65,6 @@ pub struct PageAt {
     pub past: usize,
     pub left: usize,
     pub end: usize,
-}
-
-#[derive(Clone, Copy)]
-pub enum PageRead {
-    Page(PageAt),
-    PageStop(Stop),
-}
-
-// A byte as a number.
-fn wide(b: u8) -> usize
-    ensures { (result ≡ b) × (result < 256) }
-{
-    b as usize
-}
-
-// How many of n bytes stand from a place on.
-fn rest(n: usize, at: usize) -> usize
-    ensures { result ≡ n - at }
-{
-    if n < at { 0 } else { n - at }
 }
 
 // Why these bytes cannot be read where fewer are left.
@@ -130,168 +83,149 @@ fn stop_before_end(s: &[u8], at: usize, bytes: &[u8]) -> Stop
 }
 
 // These bytes: the place after them. No bytes are read at any place, past the end too.
-fn read_exactly(s: &[u8], at: usize, bytes: &[u8]) -> PlaceRead
+fn read_exactly(s: &[u8], at: usize, bytes: &[u8]) -> Result<usize, Stop>
     ensures { ExactIs bytes.now s.now at result }
 {
     if bytes.len() == 0 {
-        return PlaceRead::Place(at);
+        return Ok(at);
     }
-    if rest(s.len(), at) < bytes.len() {
-        return PlaceRead::PlaceStop(stop_before_end(s, at, bytes));
+    if s.len().saturating_sub(at) < bytes.len() {
+        return Err(stop_before_end(s, at, bytes));
     }
     let to = at + bytes.len();
     if same_bytes(&s[at..to], bytes) {
-        return PlaceRead::Place(to);
+        return Ok(to);
     }
-    PlaceRead::PlaceStop(Stop::Departs)
+    Err(Stop::Departs)
 }
 
 // The one byte of a number from 24 to 255.
-fn read_one_byte(s: &[u8], at: usize) -> NumberRead
+fn read_one_byte(s: &[u8], at: usize) -> Result<(usize, usize), Stop>
     ensures { NumberIs one_byte s.now at result }
 {
     if s.len() <= at {
-        return NumberRead::NumberStop(Stop::EndsEarly);
+        return Err(Stop::EndsEarly);
     }
-    let n = wide(s[at]);
+    let n = usize::from(s[at]);
     if 24 <= n {
-        return NumberRead::Number(n, at + 1);
+        return Ok((n, at + 1));
     }
-    NumberRead::NumberStop(Stop::Departs)
+    Err(Stop::Departs)
 }
 
 // The two bytes of a number from 256 on.
-fn read_two_bytes(s: &[u8], at: usize) -> NumberRead
+fn read_two_bytes(s: &[u8], at: usize) -> Result<(usize, usize), Stop>
     ensures { NumberIs two_bytes s.now at result }
 {
     if s.len() <= at {
-        return NumberRead::NumberStop(Stop::EndsEarly);
+        return Err(Stop::EndsEarly);
     }
-    let high = wide(s[at]);
+    let high = usize::from(s[at]);
     if high == 0 {
-        return NumberRead::NumberStop(Stop::Departs);
+        return Err(Stop::Departs);
     }
     if s.len() <= at + 1 {
-        return NumberRead::NumberStop(Stop::EndsEarly);
+        return Err(Stop::EndsEarly);
     }
-    let low = wide(s[at + 1]);
-    NumberRead::Number(high * 256 + low, at + 2)
+    let low = usize::from(s[at + 1]);
+    Ok((high * 256 + low, at + 2))
 }
 
 // A number of a kind.
-fn read_number(s: &[u8], at: usize, kind: u8) -> NumberRead
+fn read_number(s: &[u8], at: usize, kind: u8) -> Result<(usize, usize), Stop>
     ensures { NumberIs (number kind) s.now at result }
 {
     if s.len() <= at {
-        return NumberRead::NumberStop(Stop::EndsEarly);
+        return Err(Stop::EndsEarly);
     }
-    let first = wide(s[at]);
-    let least = wide(kind);
+    let first = usize::from(s[at]);
+    let least = usize::from(kind);
     if first < least {
-        return NumberRead::NumberStop(Stop::Departs);
+        return Err(Stop::Departs);
     }
-    let n = first - least;
-    if n < 24 {
-        return NumberRead::Number(n, at + 1);
+    match first - least {
+        n @ 0..=23 => Ok((n, at + 1)),
+        24 => read_one_byte(s, at + 1),
+        25 => read_two_bytes(s, at + 1),
+        _ => Err(Stop::Departs),
     }
-    if n == 24 {
-        return read_one_byte(s, at + 1);
-    }
-    if n == 25 {
-        return read_two_bytes(s, at + 1);
-    }
-    NumberRead::NumberStop(Stop::Departs)
 }
 
 // These bytes, and then a number.
-fn read_number_after(s: &[u8], at: usize, bytes: &[u8], kind: u8) -> NumberRead
+fn read_number_after(s: &[u8], at: usize, bytes: &[u8], kind: u8) -> Result<(usize, usize), Stop>
     ensures { NumberIs (after bytes.now (number kind)) s.now at result }
 {
-    match read_exactly(s, at, bytes) {
-        PlaceRead::Place(to) => read_number(s, to, kind),
-        PlaceRead::PlaceStop(stop) => NumberRead::NumberStop(stop),
-    }
+    let to = read_exactly(s, at, bytes)?;
+    read_number(s, to, kind)
 }
 
 // These bytes, and then a digest: the place of the digest.
-fn read_digest_after(s: &[u8], at: usize, bytes: &[u8]) -> PlaceRead
+fn read_digest_after(s: &[u8], at: usize, bytes: &[u8]) -> Result<usize, Stop>
     ensures { LinkIs digest_in (after bytes.now (any_bytes digest_length)) (length bytes.now) s.now at result }
 {
-    match read_exactly(s, at, bytes) {
-        PlaceRead::Place(to) => {
-            if rest(s.len(), to) < DIGEST {
-                return PlaceRead::PlaceStop(Stop::EndsEarly);
-            }
-            PlaceRead::Place(to)
-        }
-        PlaceRead::PlaceStop(stop) => PlaceRead::PlaceStop(stop),
+    let to = read_exactly(s, at, bytes)?;
+    if s.len().saturating_sub(to) < DIGEST {
+        return Err(Stop::EndsEarly);
     }
+    Ok(to)
 }
 
 // A link: the place of its digest.
-fn read_link(s: &[u8], at: usize) -> PlaceRead
+fn read_link(s: &[u8], at: usize) -> Result<usize, Stop>
     ensures { LinkIs digest_in link 9 s.now at result }
 {
     read_digest_after(s, at, &LINK_HEAD)
 }
 
 // A value from its codec on: the place of its digest.
-fn read_value_end(s: &[u8], at: usize) -> PlaceRead
+fn read_value_end(s: &[u8], at: usize) -> Result<usize, Stop>
     ensures { LinkIs value_in value_end 3 s.now at result }
 {
     if s.len() <= at {
-        return PlaceRead::PlaceStop(Stop::EndsEarly);
+        return Err(Stop::EndsEarly);
     }
     if is_codec(s[at]) {
         return read_digest_after(s, at + 1, &AFTER_CODEC);
     }
-    PlaceRead::PlaceStop(Stop::Departs)
+    Err(Stop::Departs)
 }
 
 // A value: the place of its digest.
-fn read_value(s: &[u8], at: usize) -> PlaceRead
+fn read_value(s: &[u8], at: usize) -> Result<usize, Stop>
     ensures { LinkIs value_in value 9 s.now at result }
 {
-    match read_exactly(s, at, &BEFORE_CODEC) {
-        PlaceRead::Place(to) => read_value_end(s, to),
-        PlaceRead::PlaceStop(stop) => PlaceRead::PlaceStop(stop),
-    }
+    let to = read_exactly(s, at, &BEFORE_CODEC)?;
+    read_value_end(s, to)
 }
 
 // These bytes, and then a value: the place of its digest.
-fn read_value_after(s: &[u8], at: usize, bytes: &[u8]) -> PlaceRead
+fn read_value_after(s: &[u8], at: usize, bytes: &[u8]) -> Result<usize, Stop>
     ensures { LinkIs value_in (after bytes.now value) (length bytes.now + 9) s.now at result }
 {
-    match read_exactly(s, at, bytes) {
-        PlaceRead::Place(to) => read_value(s, to),
-        PlaceRead::PlaceStop(stop) => PlaceRead::PlaceStop(stop),
-    }
+    let to = read_exactly(s, at, bytes)?;
+    read_value(s, to)
 }
 
 // A gap.
-fn read_gap(s: &[u8], at: usize) -> GapRead
+fn read_gap(s: &[u8], at: usize) -> Result<(usize, usize), Stop>
     ensures { GapIs gap s.now at result }
 {
     if s.len() <= at {
-        return GapRead::GapStop(Stop::EndsEarly);
+        return Err(Stop::EndsEarly);
     }
     if s[at] == NULL {
-        return GapRead::Gap(0, at + 1);
+        return Ok((0, at + 1));
     }
-    match read_link(s, at) {
-        PlaceRead::Place(digest) => GapRead::Gap(digest, digest + DIGEST),
-        PlaceRead::PlaceStop(stop) => GapRead::GapStop(stop),
-    }
+    let digest = read_link(s, at)?;
+    Ok((digest, digest + DIGEST))
 }
 
 // These bytes, and then a gap.
-fn read_gap_after(s: &[u8], at: usize, bytes: &[u8]) -> GapRead
+fn read_gap_after(s: &[u8], at: usize, bytes: &[u8]) -> Result<(usize, usize), Stop>
     ensures { GapIs (after bytes.now gap) s.now at result }
 {
-    match read_exactly(s, at, bytes) {
-        PlaceRead::Place(to) => read_gap(s, to),
-        PlaceRead::PlaceStop(stop) => GapRead::GapStop(stop),
-    }
+    let to = read_exactly(s, at, bytes)?;
+    read_gap(s, to)
 }
 
 // The end of an entry whose key was read, one part after the other: the gap after it, and its value.
@@ -301,43 +235,42 @@ fn read_gap_and_value(
     shares: usize,
     remainder: usize,
     size: usize,
-) -> EntryRead
+) -> Result<EntryAt, Stop>
     ensures { EntryEndIs s.now at shares remainder size result }
 {
-    match read_gap_after(s, at, &BEFORE_GAP) {
-        GapRead::Gap(link, to) => match read_value_after(s, to, &BEFORE_VALUE) {
-            PlaceRead::Place(value) => EntryRead::Entry(EntryAt {
-                shares,
-                remainder,
-                size,
-                link,
-                value,
-                end: value + DIGEST,
-            }),
-            PlaceRead::PlaceStop(stop) => EntryRead::EntryStop(stop),
-        },
-        GapRead::GapStop(stop) => EntryRead::EntryStop(stop),
-    }
+    let (link, to) = read_gap_after(s, at, &BEFORE_GAP)?;
+    let value = read_value_after(s, to, &BEFORE_VALUE)?;
+    Ok(EntryAt {
+        shares,
+        remainder,
+        size,
+        link,
+        value,
+        end: value + DIGEST,
+    })
 }
 
 // Whether these bytes are what stands before the digest of a value after an empty gap.
 fn empty_gap_before_value(bytes: &[u8]) -> bool
     ensures { result ≡ (equal bytes.now (empty_gap_to_value dag_cbor) || equal bytes.now (empty_gap_to_value raw)) }
 {
-    if same_bytes(bytes, &EMPTY_GAP_TO_DAG_CBOR) {
-        return true;
-    }
-    same_bytes(bytes, &EMPTY_GAP_TO_RAW)
+    same_bytes(bytes, &EMPTY_GAP_TO_DAG_CBOR) || same_bytes(bytes, &EMPTY_GAP_TO_RAW)
 }
 
 // The end of an entry whose key was read.
-fn read_entry_end(s: &[u8], at: usize, shares: usize, remainder: usize, size: usize) -> EntryRead
+fn read_entry_end(
+    s: &[u8],
+    at: usize,
+    shares: usize,
+    remainder: usize,
+    size: usize,
+) -> Result<EntryAt, Stop>
     ensures { EntryEndIs s.now at shares remainder size result }
 {
-    if TO_VALUE_AFTER_NULL + DIGEST <= rest(s.len(), at) {
+    if TO_VALUE_AFTER_NULL + DIGEST <= s.len().saturating_sub(at) {
         let value = at + TO_VALUE_AFTER_NULL;
         if empty_gap_before_value(&s[at..value]) {
-            return EntryRead::Entry(EntryAt {
+            return Ok(EntryAt {
                 shares,
                 remainder,
                 size,
@@ -351,38 +284,38 @@ fn read_entry_end(s: &[u8], at: usize, shares: usize, remainder: usize, size: us
 }
 
 // An entry.
-pub fn read_entry(s: &[u8], at: usize) -> EntryRead
+pub fn read_entry(s: &[u8], at: usize) -> Result<EntryAt, Stop>
     ensures { EntryIs s.now at result }
 {
-    match read_number_after(s, at, &BEFORE_REMAINDER, BYTE_STRING) {
-        NumberRead::Number(size, remainder) => {
-            if rest(s.len(), remainder) < size {
-                return EntryRead::EntryStop(Stop::EndsEarly);
-            }
-            match read_number_after(s, remainder + size, &BEFORE_SHARES, PLAIN_NUMBER) {
-                NumberRead::Number(shares, to) => { read_entry_end(s, to, shares, remainder, size) }
-                NumberRead::NumberStop(stop) => EntryRead::EntryStop(stop),
-            }
-        }
-        NumberRead::NumberStop(stop) => EntryRead::EntryStop(stop),
+    let (size, remainder) = read_number_after(s, at, &BEFORE_REMAINDER, BYTE_STRING)?;
+    if s.len().saturating_sub(remainder) < size {
+        return Err(Stop::EndsEarly);
     }
+    let (shares, to) = read_number_after(s, remainder + size, &BEFORE_SHARES, PLAIN_NUMBER)?;
+    read_entry_end(s, to, shares, remainder, size)
 }
 
 // The end of an entry that was read before, from the place after its numbers on.
-fn locate_entry_end(s: &[u8], at: usize, shares: usize, remainder: usize, size: usize) -> EntryRead
+fn locate_entry_end(
+    s: &[u8],
+    at: usize,
+    shares: usize,
+    remainder: usize,
+    size: usize,
+) -> Result<EntryAt, Stop>
     requires { at ≤ length s.now }
     ensures { LocatedEndIs s.now at shares remainder size result }
 {
     let left = s.len() - at;
     if left < 3 {
-        return EntryRead::EntryStop(Stop::EndsEarly);
+        return Err(Stop::EndsEarly);
     }
     if s[at + 2] == NULL {
         if left < TO_VALUE_AFTER_NULL + DIGEST {
-            return EntryRead::EntryStop(Stop::EndsEarly);
+            return Err(Stop::EndsEarly);
         }
         let value = at + TO_VALUE_AFTER_NULL;
-        return EntryRead::Entry(EntryAt {
+        return Ok(EntryAt {
             shares,
             remainder,
             size,
@@ -392,10 +325,10 @@ fn locate_entry_end(s: &[u8], at: usize, shares: usize, remainder: usize, size: 
         });
     }
     if left < TO_VALUE_AFTER_LINK + DIGEST {
-        return EntryRead::EntryStop(Stop::EndsEarly);
+        return Err(Stop::EndsEarly);
     }
     let value = at + TO_VALUE_AFTER_LINK;
-    EntryRead::Entry(EntryAt {
+    Ok(EntryAt {
         shares,
         remainder,
         size,
@@ -406,74 +339,51 @@ fn locate_entry_end(s: &[u8], at: usize, shares: usize, remainder: usize, size: 
 }
 
 // Where the parts of an entry stand that was read before: what is the same in all entries is passed over and not compared again.
-pub fn locate_entry(s: &[u8], at: usize) -> EntryRead
+pub fn locate_entry(s: &[u8], at: usize) -> Result<EntryAt, Stop>
     ensures { LocatedIs s.now at result }
 {
-    if rest(s.len(), at) < 3 {
-        return EntryRead::EntryStop(Stop::EndsEarly);
+    if s.len().saturating_sub(at) < 3 {
+        return Err(Stop::EndsEarly);
     }
-    match read_number(s, at + 3, BYTE_STRING) {
-        NumberRead::Number(size, remainder) => {
-            if s.len() - remainder < size + 2 {
-                return EntryRead::EntryStop(Stop::EndsEarly);
-            }
-            match read_number(s, remainder + size + 2, PLAIN_NUMBER) {
-                NumberRead::Number(shares, to) => {
-                    locate_entry_end(s, to, shares, remainder, size)
-                }
-                NumberRead::NumberStop(stop) => EntryRead::EntryStop(stop),
-            }
-        }
-        NumberRead::NumberStop(stop) => EntryRead::EntryStop(stop),
+    let (size, remainder) = read_number(s, at + 3, BYTE_STRING)?;
+    if s.len() - remainder < size + 2 {
+        return Err(Stop::EndsEarly);
     }
+    let (shares, to) = read_number(s, remainder + size + 2, PLAIN_NUMBER)?;
+    locate_entry_end(s, to, shares, remainder, size)
 }
 
 // The start of a page: how many entries it has, and the place of the first.
-pub fn read_page_start(s: &[u8], at: usize) -> NumberRead
+pub fn read_page_start(s: &[u8], at: usize) -> Result<(usize, usize), Stop>
     ensures { NumberIs page_start s.now at result }
 {
     read_number_after(s, at, &BEFORE_ENTRIES, ARRAY)
 }
 
 // So many entries: the place after them.
-fn read_entries(s: &[u8], at: usize, count: usize) -> PlaceRead
+fn read_entries(s: &[u8], at: usize, count: usize) -> Result<usize, Stop>
     requires { at ≤ length s.now }
     ensures { EntriesIs count s.now at result }
 {
     let mut next = at;
-    let mut i = 0;
-    while i < count {
-        match read_entry(s, next) {
-            EntryRead::Entry(e) => {
-                next = e.end;
-            }
-            EntryRead::EntryStop(stop) => {
-                return PlaceRead::PlaceStop(stop);
-            }
-        }
-        i += 1;
+    for i in 0..count {
+        next = read_entry(s, next)?.end;
     }
-    PlaceRead::Place(next)
+    Ok(next)
 }
 
 // A page, without the pages below it.
-pub fn read_page(s: &[u8], at: usize) -> PageRead
+pub fn read_page(s: &[u8], at: usize) -> Result<PageAt, Stop>
     ensures { PageIs s.now at result }
 {
-    match read_page_start(s, at) {
-        NumberRead::Number(count, first) => match read_entries(s, first, count) {
-            PlaceRead::Place(past) => match read_gap_after(s, past, &BEFORE_LEFT) {
-                GapRead::Gap(left, end) => PageRead::Page(PageAt {
-                    count,
-                    first,
-                    past,
-                    left,
-                    end,
-                }),
-                GapRead::GapStop(stop) => PageRead::PageStop(stop),
-            },
-            PlaceRead::PlaceStop(stop) => PageRead::PageStop(stop),
-        },
-        NumberRead::NumberStop(stop) => PageRead::PageStop(stop),
-    }
+    let (count, first) = read_page_start(s, at)?;
+    let past = read_entries(s, first, count)?;
+    let (left, end) = read_gap_after(s, past, &BEFORE_LEFT)?;
+    Ok(PageAt {
+        count,
+        first,
+        past,
+        left,
+        end,
+    })
 }

@@ -4,7 +4,7 @@ use mathlib.Core.Path.{◌≡◌, refl, sym, ap, ◌∙◌}
 use mathlib.Core.Bool.{Bool, true, false}
 use mathlib.Core.List.{List, [], ◌∷◌, ◌++◌, append_assoc}
 use native.Mathlib.Omega.{arith}
-use lib.ListN.{length, take, drop, length-append, length-drop}
+use lib.ListN.{length, get_or, take, drop, length-append, length-drop}
 use lib.Seq.{take_all}
 use Rattle.bytestring.proofs.Lending.{lent, back, onto}
 use Rattle.bytestring.specs.Bytes.{front}
@@ -28,8 +28,11 @@ module _ (kind n : ℕ) (o xs : List ℕ) where
   pub one_written : 24 ≤ n → n < 256 → xs ≡ front ((kind + 24) ∷ n ∷ []) o → NumberWritten 2
   one_written h k e = (e ∙ rw (bytes_one kind n h k), sym (length_one n h k))
 
-  pub two_written : 256 ≤ n → xs ≡ front ((kind + 25) ∷ n / 256 ∷ n % 256 ∷ []) o → NumberWritten 3
-  two_written h e = (e ∙ rw (bytes_two kind n h), sym (length_two n h))
+  -- the two bytes of a number, the high one first
+  pub two_written : 256 ≤ n → n < 65536 → (bytes : List ℕ) → bytes ≡ n / 256 % 256 ∷ n % 256 ∷ [] → xs ≡ front ((kind + 25) ∷ get_or bytes 0 0 ∷ get_or bytes 1 0 ∷ []) o → NumberWritten 3
+  two_written h k bytes b e =
+      let high : n / 256 % 256 ≡ n / 256 = omega arith in
+      (rw (b, high) at e ∙ rw (bytes_two kind n h), sym (length_two n h))
 
 -- ---- gaps and values
 module _ (linked : Bool) (digest o xs : List ℕ) where

@@ -20,13 +20,11 @@ use value::{Digest, Value};
 fn number_length(n: usize) -> usize
     ensures { (result ≡ number_length n) × (result ≤ 3) }
 {
-    if 256 <= n {
-        return 3;
+    match n {
+        0..=23 => 1,
+        24..=255 => 2,
+        _ => 3,
     }
-    if 24 <= n {
-        return 2;
-    }
-    1
 }
 
 // A number of a kind.
@@ -35,22 +33,25 @@ fn write_number(out: &mut [u8], kind: u8, n: usize) -> usize
     ensures output { out.new ≡ front (number_bytes kind n) out.old }
     ensures count { result ≡ number_length n }
 {
-    if n < 24 {
-        let bytes = [kind + n as u8];
-        write_bytes(out, &bytes);
-        return 1;
+    match n {
+        0..=23 => {
+            write_bytes(out, &[kind + n as u8]);
+            1
+        }
+        24..=255 => {
+            write_bytes(out, &[kind + 24, n as u8]);
+            2
+        }
+        _ => {
+            let [high, low] = (n as u16).to_be_bytes();
+            write_bytes(out, &[kind + 25, high, low]);
+            3
+        }
     }
-    if n < 256 {
-        let bytes = [kind + 24, n as u8];
-        write_bytes(out, &bytes);
-        return 2;
-    }
-    let bytes = [kind + 25, (n / 256) as u8, (n % 256) as u8];
-    write_bytes(out, &bytes);
-    3
 }
 
-// These bytes, and then a number.
+// These bytes, and then a number. This and write_gap_after stay two functions: one that took what follows as a closure would say in its
+// contract which part of the output it lends, and both callers would still say what stands there.
 fn write_number_after(out: &mut [u8], bytes: &[u8], kind: u8, n: usize) -> usize
     requires { (kind ≤ 128) × (n < numbers) × (length bytes.now + number_length n ≤ length out.old) }
     ensures output { out.new ≡ front (bytes.now ++ number_bytes kind n) out.old }
@@ -98,8 +99,7 @@ fn write_gap(out: &mut [u8], linked: bool, digest: Digest) -> usize
         write_link(out, digest);
         41
     } else {
-        let bytes = [NULL];
-        write_bytes(out, &bytes);
+        write_bytes(out, &[NULL]);
         1
     }
 }

@@ -1,11 +1,9 @@
 -- What a path of pages says of a key, to one who holds the root's digest.
-use Rattle.std.specs.Prelude.{ℕ, zero, suc, ◌+◌, ◌-◌, cond, List, [], ◌∷◌, length, leb}
+use Rattle.std.specs.Prelude.{ℕ, zero, suc, ◌+◌, ◌-◌, cond, List, [], ◌∷◌, length, leb, Result, Ok, Err}
 use Rattle.std.proofs.Math.Option.{Option, none, some}
 use Rattle.limits.specs.Limits.{longest, deepest}
 use Rattle.answer.specs.declared.Refusal.{Refusal}
 use Rattle.answer.specs.declared.Refusal.TheVariants.{TooLong, EndsEarly, Departs, BytesFollow, WrongPrefix, UnlawfulKey, KeysNotRising, WrongValue, PageNotDue}
-use Rattle.answer.specs.declared.AnswerOfTwo.{AnswerOfTwo}
-use Rattle.answer.specs.declared.AnswerOfTwo.TheVariants.{Both, Refused}
 use Rattle.bytestring.specs.Bytes.{equal}
 use Rattle.fips180.specs.Hash.{sha256}
 use Rattle.value.specs.Value.{digest_length, is_digest, codec_in}
@@ -88,7 +86,7 @@ verify_verdict path k root =
     (judge_pages deepest k root 0 path)
 
 -- Absent is answered as 0, present by the place of the value's 32 digest bytes, with the value's codec beside it.
-unfoldable pub verify_answer : List ℕ → PathVerdict → AnswerOfTwo
-verify_answer path (stopped r) = Refused r
-verify_answer path absent = Both 0 0
-verify_answer path (present place) = Both place (codec_in path place)
+unfoldable pub verify_answer : List ℕ → PathVerdict → Result (ℕ × ℕ) Refusal
+verify_answer path (stopped r) = Err r
+verify_answer path absent = Ok (0, 0)
+verify_answer path (present place) = Ok (place, codec_in path place)

@@ -1,4 +1,6 @@
 -- The key of an entry: whether it is greater than the key before it, and how the search goes past it.
+use Rattle.std.specs.declared.cmp.Ordering.{Ordering}
+use Rattle.std.specs.declared.cmp.Ordering.TheVariants.{Less, Equal, Greater}
 use Prim.Native.Nat.{ℕ, suc, ◌+◌, ◌-◌, ◌≤◌, ◌<◌}
 use mathlib.Core.Path.{◌≡◌, refl, sym, ap, ◌∙◌}
 use mathlib.Core.Bool.{Bool, true, false, ◌&&◌}
@@ -10,8 +12,6 @@ use lib.Seq.{get_or_at, length-take-le}
 use borrow.Author.Tests.{ltb-true, ltb-false, leb-true, leb-false}
 use borrow.Table.Steps.{cases}
 use Rattle.key.specs.Key.{less, order, shared}
-use Rattle.key.specs.declared.Order.{Order}
-use Rattle.key.specs.declared.Order.TheVariants.{Less, Equal, Greater}
 use Rattle.key.proofs.Laws.{less_asymmetric, less_same, order_less, order_equal, order_greater, shared_le_left}
 use Rattle.key_order.proofs.Shared.{both_end, b_begins_a, a_begins_b, lower_byte, higher_byte}
 use Rattle.page_reader.specs.declared.EntryAt.{EntryAt}
@@ -93,7 +93,7 @@ module _ (buffer : List ℕ) (size : ℕ) (key : List ℕ) (e : EntryAt) where
       unfolding PastEntry
       past_long h k w room = absurd (omega arith)
 
-      module _ (o : Order) (is : o ≡ order key (take size buffer)) where
+      module _ (o : Ordering) (is : o ≡ order key (take size buffer)) where
         pub past_less : o ≡ Less → PastEntry buffer size key e search (Gap gap)
         unfolding PastEntry
         past_less p k w room = rw (q, ← holds_whole w room, order_less key (take size buffer) (sym is ∙ p))

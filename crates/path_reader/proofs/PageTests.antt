@@ -1,4 +1,5 @@
 -- One page of a path.
+use Rattle.std.specs.Prelude.{Result, Ok, Err}
 use Prim.Native.Nat.{ℕ, zero, suc, ◌+◌, ◌-◌, ◌≤◌}
 use mathlib.Core.Path.{◌≡◌, refl, sym, subst, ◌∙◌}
 use mathlib.Core.Bool.{Bool, true, false, not}
@@ -18,8 +19,6 @@ use Rattle.page_reader.specs.Place.{read_stop, link_at, PageHere, PageIs}
 use Rattle.page_reader.specs.declared.Stop.{Stop}
 use Rattle.page_reader.specs.declared.Stop.TheVariants.{EndsEarly, Departs}
 use Rattle.page_reader.specs.declared.PageAt.{PageAt}
-use Rattle.page_reader.specs.declared.PageRead.{PageRead}
-use Rattle.page_reader.specs.declared.PageRead.TheVariants.{Page, PageStop}
 use Rattle.page_keys.proofs.Entries.{read_stop≢read}
 use Rattle.tree.specs.Judge.{due, all_lawful, rising}
 use Rattle.tree.specs.OnePage.{prefixes_of, records_in}
@@ -33,7 +32,7 @@ use Rattle.path_reader.specs.declared.pages.PageVerdict.TheVariants.{Absent, Lin
 use Rattle.page_reader.proofs.Spelling.{page_here, page_ends, page_part, page_first}
 
 -- ---- a page that was read
-module _ (path : List ℕ) (at : ℕ) (got : PageRead) (w : PageIs path at got) (p : PageAt) (is : got ≡ Page p) where
+module _ (path : List ℕ) (at : ℕ) (got : Result PageAt Stop) (w : PageIs path at got) (p : PageAt) (is : got ≡ Ok p) where
   page_here_lem : PageHere path at p
   page_here_lem = subst (PageIs path at) is w
 
@@ -48,8 +47,8 @@ module _ (path : List ℕ) (at : ℕ) (got : PageRead) (w : PageIs path at got) 
 
 -- ---- prefix lengths
 module _ (path : List ℕ) (at : ℕ) where
-  module _ (got : PageRead) (w : PageIs path at got) where
-    pub prefixes_read : (p : PageAt) → got ≡ Page p → (r : Bool)
+  module _ (got : Result PageAt Stop) (w : PageIs path at got) where
+    pub prefixes_read : (p : PageAt) → got ≡ Ok p → (r : Bool)
         → ((es : List RawEntry) (past : ℕ) → times p.count entry (drop p.first path) ≡ read es (drop past path) → r ≡ prefixes_of [] es)
         → JudgesPrefixes path at false r
     unfolding JudgesPrefixes
@@ -57,7 +56,7 @@ module _ (path : List ℕ) (at : ℕ) where
         let here = page_here_lem path at got w p is in
         read_sub (λ q _. r ≡ prefixes_of [] q.entries) (sym here.whole.reads ∙ reads) (fits here.row.entries p.past here.row.reads)
 
-    pub prefixes_unread : (stop : Stop) → got ≡ PageStop stop → JudgesPrefixes path at false true
+    pub prefixes_unread : (stop : Stop) → got ≡ Err stop → JudgesPrefixes path at false true
     unfolding JudgesPrefixes
     prefixes_unread stop is raw rest reads says = absurd (read_stop≢read stop (sym (subst (PageIs path at) is w) ∙ reads))
 
@@ -108,11 +107,11 @@ unfolding judge_pages on_page
 path_stopped path at key digest depth EndsEarly e = rw e
 path_stopped path at key digest depth Departs e = rw e
 
-module _ (path : List ℕ) (at : ℕ) (key digest : List ℕ) (got : PageRead) (w : PageIs path at got) where
-  pub page_stopped : (stop : Stop) → got ≡ PageStop stop → (r : Refusal) → r ≡ refusal_of stop → JudgesPage path at key digest (Refused r)
+module _ (path : List ℕ) (at : ℕ) (key digest : List ℕ) (got : Result PageAt Stop) (w : PageIs path at got) where
+  pub page_stopped : (stop : Stop) → got ≡ Err stop → (r : Refusal) → r ≡ refusal_of stop → JudgesPage path at key digest (Refused r)
   page_stopped stop is r e = rw e (record { says = λ depth. path_stopped path at key digest depth stop (subst (PageIs path at) is w); within = tt })
 
-  module _ (slice : Bytes path) (p : PageAt) (is : got ≡ Page p) where
+  module _ (slice : Bytes path) (p : PageAt) (is : got ≡ Ok p) where
     here : PageHere path at p
     here = page_here_lem path at got w p is
 

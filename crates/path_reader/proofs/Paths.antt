@@ -1,4 +1,5 @@
 -- The pages of a path, one after the other.
+use Rattle.std.specs.Prelude.{Result, Ok, Err}
 use Prim.Native.Nat.{ℕ, suc, ◌+◌, ◌-◌, ◌≤◌, ◌<◌}
 use mathlib.Core.Path.{◌≡◌, refl, sym, ap, subst, ◌∙◌}
 use mathlib.Core.Bool.{true}
@@ -10,10 +11,6 @@ use borrow.Author.Tests.{le-leb, lt-leb, eq-eqb, ne_eqb}
 use Rattle.limits.specs.Limits.{longest, deepest}
 use Rattle.answer.specs.declared.Refusal.{Refusal}
 use Rattle.answer.specs.declared.Refusal.TheVariants.{TooLong, EndsEarly, Departs, BytesFollow, WrongValue}
-use Rattle.answer.specs.declared.Answer.{Answer}
-use Rattle.answer.specs.declared.Answer.TheVariants.{Done, Refused}
-use Rattle.answer.specs.declared.AnswerOfTwo.{AnswerOfTwo}
-use Rattle.answer.specs.declared.AnswerOfTwo.TheVariants.{Both, Refused as BothRefused}
 use Rattle.value.specs.Value.{digest_length, is_digest, digest_in, codec_in}
 use Rattle.key.specs.Key.{lawful, slash_answer}
 use Rattle.key.proofs.SlashLaws.{slash_done, slash_refused}
@@ -25,10 +22,10 @@ use Rattle.path_reader.specs.declared.pages.PageVerdict.TheVariants.{Present, Ab
 
 -- ---- the search has ended
 module _ (path : List ℕ) (end place codec : ℕ) where
-  pub bytes_follow : end < length path → BothRefused BytesFollow ≡ end_answer place codec (drop end path)
+  pub bytes_follow : end < length path → Err BytesFollow ≡ end_answer place codec (drop end path)
   bytes_follow h = rw (drop-cons path end 0 h)
 
-  pub none_follow : length path ≤ end → Both place codec ≡ end_answer place codec (drop end path)
+  pub none_follow : length path ≤ end → Ok (place, codec) ≡ end_answer place codec (drop end path)
   none_follow h = rw (drop_of_length-le path h)
 
 present_ends : (path : List ℕ) (place : ℕ) (rest : List ℕ) → end_answer place (codec_in path place) rest ≡ verify_answer path (at_end (present place) rest)
@@ -53,13 +50,13 @@ path_start path key root = refl
 module _ (path key root digest : List ℕ) (at level : ℕ) (so_far : PathSoFar path key root digest at level) where
   -- no page may follow
   module _ (h : deepest ≤ level) where
-    pub page_too_deep : at < length path → BothRefused Departs ≡ verify_answer path (judge_pages deepest key root 0 path)
+    pub page_too_deep : at < length path → Err Departs ≡ verify_answer path (judge_pages deepest key root 0 path)
     unfolding PathSoFar judge_pages verify_answer
     page_too_deep l =
         let none_left : deepest - level ≡ 0 = omega arith in
         sym (ap (verify_answer path) so_far ∙ rw (none_left, drop-cons path at 0 l))
 
-    pub path_ends : length path ≤ at → BothRefused EndsEarly ≡ verify_answer path (judge_pages deepest key root 0 path)
+    pub path_ends : length path ≤ at → Err EndsEarly ≡ verify_answer path (judge_pages deepest key root 0 path)
     unfolding PathSoFar judge_pages verify_answer
     path_ends l =
         let none_left : deepest - level ≡ 0 = omega arith in
@@ -73,7 +70,7 @@ module _ (path key root digest : List ℕ) (at level : ℕ) (so_far : PathSoFar 
         let one_less : deepest - level ≡ suc (deepest - (level + 1)) = omega arith in
         so_far ∙ rw (one_less, ← is) (w.says (deepest - (level + 1)))
 
-    pub path_refused : (r : Refusal) → got ≡ RefusedPage r → BothRefused r ≡ verify_answer path (judge_pages deepest key root 0 path)
+    pub path_refused : (r : Refusal) → got ≡ RefusedPage r → Err r ≡ verify_answer path (judge_pages deepest key root 0 path)
     unfolding verify_answer
     path_refused r is = sym (ap (verify_answer path) (page_next (RefusedPage r) is))
 
@@ -81,7 +78,7 @@ module _ (path key root digest : List ℕ) (at level : ℕ) (so_far : PathSoFar 
       pub value_within : length path ≤ longest → got ≡ Present place end → place ≤ longest
       value_within short is = let in_path = (subst (λ (g : PageVerdict). JudgesPage path at key digest g) is w).within in omega arith
 
-      pub path_present : got ≡ Present place end → (codec : ℕ) → codec ≡ codec_in path place → (r : AnswerOfTwo) → r ≡ end_answer place codec (drop end path)
+      pub path_present : got ≡ Present place end → (codec : ℕ) → codec ≡ codec_in path place → (r : Result (ℕ × ℕ) Refusal) → r ≡ end_answer place codec (drop end path)
           → r ≡ verify_answer path (judge_pages deepest key root 0 path)
       path_present is codec f r e = e ∙ rw f (present_ends path place (drop end path)) ∙ sym (ap (verify_answer path) (page_next (Present place end) is))
 
@@ -92,33 +89,33 @@ module _ (path key root digest : List ℕ) (at level : ℕ) (so_far : PathSoFar 
           let in_path = (subst (λ (g : PageVerdict). JudgesPage path at key digest g) is w).within in
           page_next (Linked place end) is ∙ rw (e in_path)
 
-    pub path_absent : (end : ℕ) → got ≡ Absent end → (r : AnswerOfTwo) → r ≡ end_answer 0 0 (drop end path)
+    pub path_absent : (end : ℕ) → got ≡ Absent end → (r : Result (ℕ × ℕ) Refusal) → r ≡ end_answer 0 0 (drop end path)
         → r ≡ verify_answer path (judge_pages deepest key root 0 path)
     path_absent end is r e = e ∙ absent_ends path (drop end path) ∙ sym (ap (verify_answer path) (page_next (Absent end) is))
 
 -- ---- the arguments
 module _ (path key root : List ℕ) where
-  pub path_too_long : longest < length path → BothRefused TooLong ≡ verify_answer path (verify_verdict path key root)
+  pub path_too_long : longest < length path → Err TooLong ≡ verify_answer path (verify_verdict path key root)
   unfolding verify_verdict due unless verify_answer
   path_too_long h = rw (lt-leb (length path) longest h)
 
-  module _ (short : length path ≤ longest) (got : Answer) (w : got ≡ slash_answer key) where
-    pub key_refused : (r : Refusal) → got ≡ Refused r → BothRefused r ≡ verify_answer path (verify_verdict path key root)
+  module _ (short : length path ≤ longest) (got : Result ℕ Refusal) (w : got ≡ slash_answer key) where
+    pub key_refused : (r : Refusal) → got ≡ Err r → Err r ≡ verify_answer path (verify_verdict path key root)
     unfolding verify_verdict due unless verify_answer
     key_refused r is =
         let (unlawful, seven) = slash_refused key r (sym w ∙ is) in
         rw (le-leb (length path) longest short, unlawful, seven)
 
-    module _ (n : ℕ) (is : got ≡ Done n) where
+    module _ (n : ℕ) (is : got ≡ Ok n) where
       key_lawful : lawful key ≡ true
       key_lawful = slash_done key n (sym w ∙ is)
 
-      pub root_length : (length root ≡ digest_length → ⊥) → BothRefused WrongValue ≡ verify_answer path (verify_verdict path key root)
+      pub root_length : (length root ≡ digest_length → ⊥) → Err WrongValue ≡ verify_answer path (verify_verdict path key root)
       unfolding verify_verdict due unless verify_answer is_digest
       root_length f = rw (le-leb (length path) longest short, key_lawful, ne_eqb (length root) digest_length f)
 
       pub path_judged : length root ≡ digest_length → (digest : List ℕ) → (0 + digest_length ≤ length root → digest ≡ digest_in root 0)
-          → (r : AnswerOfTwo) → r ≡ verify_answer path (judge_pages deepest key digest 0 path) → r ≡ verify_answer path (verify_verdict path key root)
+          → (r : Result (ℕ × ℕ) Refusal) → r ≡ verify_answer path (judge_pages deepest key digest 0 path) → r ≡ verify_answer path (verify_verdict path key root)
       unfolding verify_verdict due unless is_digest
       path_judged h digest e r judged =
           let whole : digest ≡ root = e (omega arith) ∙ take_all digest_length root (omega arith) in

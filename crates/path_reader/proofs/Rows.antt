@@ -1,4 +1,5 @@
 -- The row of a page's entries: the tests of their keys, and the search among them.
+use Rattle.std.specs.Prelude.{Result, Ok, Err}
 use Prim.Native.Nat.{ℕ, suc, ◌+◌, ◌-◌, ◌≤◌, ◌<◌}
 use mathlib.Core.Path.{◌≡◌, refl, sym, ap, subst, ◌∙◌}
 use mathlib.Core.Bool.{Bool, true, ◌&&◌, and-true, and_assoc}
@@ -22,8 +23,6 @@ use Rattle.page.proofs.Pages.{entry_spells}
 use Rattle.page_reader.specs.Place.{Reads, link_at, entry_at, EntryHere, Located, LocatedIs}
 use Rattle.page_reader.specs.declared.Stop.{Stop}
 use Rattle.page_reader.specs.declared.EntryAt.{EntryAt}
-use Rattle.page_reader.specs.declared.EntryRead.{EntryRead}
-use Rattle.page_reader.specs.declared.EntryRead.TheVariants.{Entry, EntryStop}
 use Rattle.page_reader.proofs.Located.{entry_place}
 use Rattle.page_keys.specs.Buffer.{HoldsKey, Extended, PrefixIs}
 use Rattle.page_keys.proofs.Buffers.{holds_none}
@@ -39,7 +38,7 @@ use Rattle.path_reader.specs.declared.entries.EntriesJudged.{EntriesJudged}
 use Rattle.page_reader.proofs.Spelling.{reads_end}
 
 -- ---- an entry that was located
-module _ (s : List ℕ) (at : ℕ) (got : EntryRead) (w : LocatedIs s at got) (e : EntryAt) (is : got ≡ Entry e) where
+module _ (s : List ℕ) (at : ℕ) (got : Result EntryAt Stop) (w : LocatedIs s at got) (e : EntryAt) (is : got ≡ Ok e) where
   found : Located s at e
   found = subst (LocatedIs s at) is w
 
@@ -193,7 +192,7 @@ module _ {s : List ℕ} {first n left : ℕ} {key buffer : List ℕ} {size : ℕ
         let one_more : n - i ≡ suc (n - (i + 1)) = omega arith in
         andThen-inv (entry (drop at s)) (λ a t h _. (a, entry_place s at a t so_far.slice h)) (rw one_more at q)
 
-    pub onward_there : (got : EntryRead) (stop : Stop) → LocatedIs s at got → got ≡ EntryStop stop → JudgesEntries s first n left key st
+    pub onward_there : (got : Result EntryAt Stop) (stop : Stop) → LocatedIs s at got → got ≡ Err stop → JudgesEntries s first n left key st
     unfolding RestSays
     onward_there got stop w is =
         all_judged s first n left key st (so_far.onward st (λ es past q.
@@ -201,7 +200,7 @@ module _ {s : List ℕ} {first n left : ℕ} {key buffer : List ℕ} {size : ℕ
         absurd (subst (LocatedIs s at) is w x.0 _ x.1)))
 
     -- it was located, its prefix and its order were tested, its key is in the buffer, and it was taken
-    module _ (got : EntryRead) (w : LocatedIs s at got) (e : EntryAt) (is : got ≡ Entry e)
+    module _ (got : Result EntryAt Stop) (w : LocatedIs s at got) (e : EntryAt) (is : got ≡ Ok e)
         (fits : Bool) (tested : PrefixIs buffer size s e.shares e.remainder e.size fits) (short : fits ≡ true → e.shares < length buffer)
         (rises : Bool) (greater : Rises buffer size s e.shares e.remainder e.size rises)
         (buffer₁ : List ℕ) (size₁ : ℕ) (extended : Extended buffer size s e.shares e.remainder e.size buffer₁ size₁) (room₁ : length buffer₁ ≡ longest_key)
@@ -260,6 +259,6 @@ module _ {s : List ℕ} {first n left : ℕ} {key buffer : List ℕ} {size : ℕ
         onward = λ r rest. so_far.onward r (λ es past q.
             let x = entry_there es past q in
             let here : EntryHere s at e = (found s at got w e is).here x.0 _ x.1 in
-            let (later, first_is, reads) = row_behind s n i at past es q more (Entry e) here e refl in
+            let (later, first_is, reads) = row_behind s n i at past es q more (Ok e) here e refl in
             rw first_is (row_first here later r (rest later past reads)));
       }

@@ -1,9 +1,7 @@
 -- What is said of a path's pages and their entries. Contracts inside this crate cite it, and no public contract does.
-use Rattle.std.specs.Prelude.{ℕ, zero, suc, ◌+◌, ◌≤◌, ◌<◌, ◌≡◌, Bool, true, cond, ◌&&◌, List, [], ◌∷◌, ◌++◌, length, take, drop}
+use Rattle.std.specs.Prelude.{ℕ, zero, suc, ◌+◌, ◌≤◌, ◌<◌, ◌≡◌, Bool, true, cond, ◌&&◌, List, [], ◌∷◌, ◌++◌, length, take, drop, Result, Ok, Err}
 use Rattle.answer.specs.declared.Refusal.{Refusal}
 use Rattle.answer.specs.declared.Refusal.TheVariants.{EndsEarly as Early, Departs as Departing, BytesFollow}
-use Rattle.answer.specs.declared.AnswerOfTwo.{AnswerOfTwo}
-use Rattle.answer.specs.declared.AnswerOfTwo.TheVariants.{Both, Refused as BothRefused}
 use Rattle.value.specs.Value.{digest_length, digest_in}
 use Rattle.key.specs.Key.{lawful, less, shared}
 use Rattle.page.specs.Reading.{read, times}
@@ -117,6 +115,6 @@ pub record JudgesPage (path : List ℕ) (at : ℕ) (key digest : List ℕ) (r : 
 
 -- ---- where the search has ended
 -- Two values are answered; bytes left draw 4.
-abbrev pub end_answer : ℕ → ℕ → List ℕ → AnswerOfTwo
-end_answer place codec [] = Both place codec
-end_answer place codec (b ∷ rest) = BothRefused BytesFollow
+abbrev pub end_answer : ℕ → ℕ → List ℕ → Result (ℕ × ℕ) Refusal
+end_answer place codec [] = Ok (place, codec)
+end_answer place codec (b ∷ rest) = Err BytesFollow

@@ -4,11 +4,11 @@ ghost use Rattle.std.specs.Prelude.{◌+◌, ◌≤◌, length};
 ghost use Rattle.limits.specs.Limits.{longest_key};
 ghost use Rattle.path_reader.specs.Judging.{Rises, PastEntry, TakesEntry, JudgesEntries};
 
-use key::Order;
 use key_order::compare;
 use limits::LONGEST_KEY;
 use page_keys::{extend_key, key_is_lawful, prefix_fits};
-use page_reader::{EntryAt, EntryRead, locate_entry};
+use page_reader::{EntryAt, locate_entry};
+use std::cmp::Ordering;
 
 // Where the search for a key stands in a page. It goes on behind entries that come before the key; or the key is an entry; or it would stand
 // in a gap. A value is known by its place, and a gap by the place of its link's digest, or 0.
@@ -55,9 +55,9 @@ fn past_entry(search: Search, buffer: &[u8], size: usize, key: &[u8], e: EntryAt
                 return Search::On(gap);
             }
             match compare(key, &buffer[..size]) {
-                Order::Less => Search::Gap(gap),
-                Order::Equal => Search::Value(e.value),
-                Order::Greater => Search::On(e.link),
+                Ordering::Less => Search::Gap(gap),
+                Ordering::Equal => Search::Value(e.value),
+                Ordering::Greater => Search::On(e.link),
             }
         }
         Search::Value(value) => Search::Value(value),
@@ -105,7 +105,7 @@ pub fn judge_entries(s: &[u8], first: usize, n: usize, left: usize, key: &[u8]) 
     while i < n {
         i += 1;
         match locate_entry(s, at) {
-            EntryRead::Entry(e) => {
+            Ok(e) => {
                 let shares = e.shares;
                 let remainder = e.remainder;
                 let length = e.size;
@@ -115,7 +115,7 @@ pub fn judge_entries(s: &[u8], first: usize, n: usize, left: usize, key: &[u8]) 
                 judged = take_entry(judged, fits, rising, &buffer, size, key, e);
                 at = e.end;
             }
-            EntryRead::EntryStop(_) => {
+            Err(_) => {
                 return judged;
             }
         }

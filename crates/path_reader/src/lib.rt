@@ -8,24 +8,24 @@ ghost use Rattle.std.specs.Prelude.{◌≡◌};
 ghost use Rattle.path.specs.Verify.{verify_verdict, verify_answer};
 
 use crate::pages::judge_pages;
-use answer::{Answer, AnswerOfTwo, Refusal};
+use answer::Refusal;
 use key_calls::slash;
 use limits::LONGEST;
 use value::{DIGEST, digest_at};
 
 // Public call: what a path says of a key, to one who holds the root's digest. Present is answered by the place in the path of the
 // value's digest, with the value's codec beside it, absent by 0 and 0.
-pub fn verify(path: &[u8], key: &[u8], root: &[u8]) -> AnswerOfTwo
+pub fn verify(path: &[u8], key: &[u8], root: &[u8]) -> Result<(u32, u32), Refusal>
     ensures { result ≡ verify_answer path.now (verify_verdict path.now key.now root.now) }
 {
     if LONGEST < path.len() {
-        return AnswerOfTwo::Refused(Refusal::TooLong);
+        return Err(Refusal::TooLong);
     }
-    if let Answer::Refused(refusal) = slash(key) {
-        return AnswerOfTwo::Refused(refusal);
+    if let Err(refusal) = slash(key) {
+        return Err(refusal);
     }
     if root.len() != DIGEST {
-        return AnswerOfTwo::Refused(Refusal::WrongValue);
+        return Err(Refusal::WrongValue);
     }
     judge_pages(path, key, digest_at(root, 0))
 }

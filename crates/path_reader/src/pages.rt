@@ -6,11 +6,11 @@ ghost use Rattle.path.specs.Verify.{judge_pages, verify_answer};
 ghost use Rattle.path_reader.specs.Judging.{refusal_of, JudgesPrefixes, said_in_gap, said_by, JudgesPage, end_answer};
 
 use crate::entries::{Search, judge_entries};
-use answer::{AnswerOfTwo, Refusal};
+use answer::Refusal;
 use bytestring::same_bytes;
 use limits::{DEEPEST, NUMBERS};
 use page_keys::prefixes_fit;
-use page_reader::{PageRead, Stop, read_page};
+use page_reader::{Stop, read_page};
 use sha256::digest_of;
 use value::{Digest, codec_at, digest_at};
 
@@ -40,8 +40,8 @@ fn prefixes_again(path: &[u8], at: usize) -> bool
 {
     let mut buffer = [0u8; NUMBERS];
     match read_page(path, at) {
-        PageRead::Page(p) => prefixes_fit(path, p.first, p.count, &mut buffer),
-        PageRead::PageStop(_) => true,
+        Ok(p) => prefixes_fit(path, p.first, p.count, &mut buffer),
+        Err(_) => true,
     }
 }
 
@@ -83,7 +83,7 @@ fn judge_page(path: &[u8], at: usize, key: &[u8], due: &Digest) -> PageVerdict
     ensures { JudgesPage path.now at key.now due.now result }
 {
     match read_page(path, at) {
-        PageRead::Page(p) => {
+        Ok(p) => {
             let end = p.end;
             let judged = judge_entries(path, p.first, p.count, p.left, key);
             if !judged.lawful {
@@ -105,23 +105,23 @@ fn judge_page(path: &[u8], at: usize, key: &[u8], due: &Digest) -> PageVerdict
             let search = judged.search;
             said_by(search, end)
         }
-        PageRead::PageStop(stop) => PageVerdict::Refused(refusal_of(stop)),
+        Err(stop) => PageVerdict::Refused(refusal_of(stop)),
     }
 }
 
 // The search has ended in the page that ends before the place end, with these two values: bytes left draw 4.
-fn at_end(path: &[u8], end: usize, place: usize, codec: u8) -> AnswerOfTwo
+fn at_end(path: &[u8], end: usize, place: usize, codec: u8) -> Result<(u32, u32), Refusal>
     requires { place ≤ longest }
     ensures { result ≡ end_answer place codec (drop end path.now) }
 {
     if end < path.len() {
-        return AnswerOfTwo::Refused(Refusal::BytesFollow);
+        return Err(Refusal::BytesFollow);
     }
-    AnswerOfTwo::Both(place as u32, codec as u32)
+    Ok((place as u32, codec as u32))
 }
 
 // The pages, as long as the search goes on.
-pub fn judge_pages(path: &[u8], key: &[u8], root: Digest) -> AnswerOfTwo
+pub fn judge_pages(path: &[u8], key: &[u8], root: Digest) -> Result<(u32, u32), Refusal>
     requires { length path.now ≤ longest }
     ensures { result ≡ verify_answer path.now (judge_pages deepest key.now root 0 path.now) }
 {
@@ -141,13 +141,13 @@ pub fn judge_pages(path: &[u8], key: &[u8], root: Digest) -> AnswerOfTwo
                 at = end;
             }
             PageVerdict::Refused(refusal) => {
-                return AnswerOfTwo::Refused(refusal);
+                return Err(refusal);
             }
         }
         level += 1;
     }
     if at < path.len() {
-        return AnswerOfTwo::Refused(Refusal::Departs);
+        return Err(Refusal::Departs);
     }
-    AnswerOfTwo::Refused(Refusal::EndsEarly)
+    Err(Refusal::EndsEarly)
 }

@@ -1,4 +1,5 @@
 -- The path of a key in a register that is judged.
+use Rattle.std.specs.Prelude.{Result, Err}
 use Prim.Native.Nat.{ℕ, ◌≤◌, ◌<◌}
 use mathlib.Core.Path.{◌≡◌, refl, sym, ap, ◌∙◌}
 use mathlib.Core.Bool.{true, ◌&&◌}
@@ -10,8 +11,6 @@ use Rattle.limits.specs.Limits.{longest}
 use Rattle.bytestring.specs.Bytes.{Bytes, zeros}
 use Rattle.bytestring.proofs.Tools.{and_inv}
 use Rattle.answer.specs.declared.Refusal.{Refusal}
-use Rattle.answer.specs.declared.Answer.{Answer}
-use Rattle.answer.specs.declared.Answer.TheVariants.{Refused}
 use Rattle.key.specs.Key.{lawful, slash_answer}
 use Rattle.key.proofs.SlashLaws.{slash_refused}
 use Rattle.tree.specs.Record.{records}
@@ -49,7 +48,7 @@ module _ {s row : List ℕ} {n : ℕ} (w : ChainRow s row n) where
   abbrev cs : List Chain
   cs = chains 0 0 [] w.tree
 
-  module _ (low high room : ℕ) {answer : Answer} {out : List ℕ} where
+  module _ (low high room : ℕ) {answer : Result ℕ Refusal} {out : List ℕ} where
     says : PathMeasured (path_among low high w.tree cs) room answer out → PathSays s low high room answer out
     unfolding PathSays
     says x u h = rw (← one_tree s w.judged h) x
@@ -68,7 +67,7 @@ module _ {s row : List ℕ} {n : ℕ} (w : ChainRow s row n) where
     pub register_short : length s ≤ longest
     register_short = omega (arith, ap length facts.written, facts.fit.size)
 
-    pub empty_says : (low high room : ℕ) {answer : Answer} {out : List ℕ} → n ≡ 0 → PathMeasured s room answer out → PathSays s low high room answer out
+    pub empty_says : (low high room : ℕ) {answer : Result ℕ Refusal} {out : List ℕ} → n ≡ 0 → PathMeasured s room answer out → PathSays s low high room answer out
     unfolding path_among
     empty_says low high room h x = says low high room (rw (no_chain_lem cs (sym w.size ∙ h), ← table_is s w.tree facts) x)
 
@@ -98,15 +97,15 @@ module _ (s k : List ℕ) {index : List ℕ} {count : ℕ} (a : Accepting s inde
 
 -- ---- the verdict
 module _ (s k : List ℕ) (room : ℕ) where
-  abbrev Says : Answer → List ℕ → Type 0
+  abbrev Says : Result ℕ Refusal → List ℕ → Type 0
   Says answer out = (answer ≡ answer_of (path_outcome s k room)) × (out ≡ output_of (path_outcome s k room) room)
 
-  module _ {answer : Answer} {out : List ℕ} {r : Refusal} (refuses : (answer ≡ Refused r) × (out ≡ zeros room)) where
+  module _ {answer : Result ℕ Refusal} {out : List ℕ} {r : Refusal} (refuses : (answer ≡ Err r) × (out ≡ zeros room)) where
     pub path_refused : judge s ≡ refused r → Says answer out
     unfolding path_outcome path_verdict answer_of output_of
     path_refused e = rw e refuses
 
-    pub path_unlawful : {u : SpeltTree} → judge s ≡ accepted u → slash_answer k ≡ Refused r → Says answer out
+    pub path_unlawful : {u : SpeltTree} → judge s ≡ accepted u → slash_answer k ≡ Err r → Says answer out
     unfolding path_outcome path_verdict due settle_path answer_of output_of
     path_unlawful e q = let w = slash_refused k r q in rw (e, w.0, ← w.1) refuses
 
@@ -115,6 +114,6 @@ module _ (s k : List ℕ) (room : ℕ) where
   path_lawful u e l = rw (e, l)
 
   pub path_says : {index : List ℕ} {count : ℕ} (a : Accepting s index count) (low high : ℕ) → low ≡ count_below k (accepted_records (judge s))
-      → high ≡ count_up_to k (accepted_records (judge s)) → lawful k ≡ true → {answer : Answer} {out : List ℕ} → PathSays s low high room answer out → Says answer out
+      → high ≡ count_up_to k (accepted_records (judge s)) → lawful k ≡ true → {answer : Result ℕ Refusal} {out : List ℕ} → PathSays s low high room answer out → Says answer out
   unfolding PathSays
   path_says a low high lower upper l says = rw (path_lawful (t a) a.given.judged l, ← path_is s k a low high lower upper) (says (t a) a.given.judged)

@@ -1,8 +1,8 @@
 -- A path as a part of a register's row of chains. Contracts inside this crate cite it, and no public contract does.
-use Rattle.std.specs.Prelude.{ℕ, ◌+◌, ◌-◌, ◌*◌, ◌≤◌, ◌≡◌, Bool, cond, ◌&&◌, List, [], ◌∷◌, ◌++◌, length, take, drop, leb}
+use Rattle.answer.specs.declared.Refusal.{Refusal}
+use Rattle.std.specs.Prelude.{ℕ, ◌+◌, ◌-◌, ◌*◌, ◌≤◌, ◌≡◌, Bool, cond, ◌&&◌, List, [], ◌∷◌, ◌++◌, length, take, drop, leb, Result}
 use Rattle.limits.specs.Limits.{longest}
 use Rattle.word.specs.Word.{page_in, above_in, end_in}
-use Rattle.answer.specs.declared.Answer.{Answer}
 use Rattle.answer.specs.declared.Refusal.TheVariants.{NoRoom}
 use Rattle.tree.specs.Table.{SpeltTree, bytes_of_page, table}
 use Rattle.tree.specs.Judge.{due, accepted, judge}
@@ -43,13 +43,13 @@ path_among low high t (c ∷ cs) = covering low high (c ∷ cs)
 unfoldable pub measured_path : List ℕ → ℕ → Outcome
 measured_path path room = settle_path (due ((NoRoom, leb (length path) room) ∷ [])) path
 
-abbrev pub PathMeasured : List ℕ → ℕ → Answer → List ℕ → Type 0
+abbrev pub PathMeasured : List ℕ → ℕ → Result ℕ Refusal → List ℕ → Type 0
 PathMeasured path room answer out = (answer ≡ answer_of (measured_path path room)) × (out ≡ output_of (measured_path path room) room)
 
 -- The path of an accepted register is no longer than a register may be, and so it is done with it.
 unfoldable pub ShortPath : List ℕ → ℕ → ℕ → Type 0
 ShortPath s low high = (t : SpeltTree) → judge s ≡ accepted t → length (path_among low high t (chains 0 0 [] t)) ≤ longest
 
-unfoldable pub PathSays : List ℕ → ℕ → ℕ → ℕ → Answer → List ℕ → Type 0
+unfoldable pub PathSays : List ℕ → ℕ → ℕ → ℕ → Result ℕ Refusal → List ℕ → Type 0
 PathSays s low high room answer out =
     (t : SpeltTree) → judge s ≡ accepted t → PathMeasured (path_among low high t (chains 0 0 [] t)) room answer out

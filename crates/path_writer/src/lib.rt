@@ -1,4 +1,4 @@
-// The path of a key in a register. A short register is judged with short rows, so that little is cleared.
+// The path of a key in a register.
 #![tactic(auto)]
 
 mod pages; // the pages of the path, by the row of chains
@@ -9,21 +9,17 @@ ghost use Rattle.promises.specs.Outcome.{answer_of, output_of};
 ghost use Rattle.path.specs.Path.{path_outcome};
 
 use crate::rows::path_with_rows;
-use answer::Answer;
-use limits::{FEW, MOST, SHORT};
+use answer::Refusal;
+use lending::with_rows;
 
 // Public call: the pages that a search for the key opens, from the root down. They go to the output with zeros after them, and their length
 // is answered. On refusal the output is zero.
-pub fn path(register: &[u8], key: &[u8], out: &mut [u8]) -> Answer
+pub fn path(register: &[u8], key: &[u8], out: &mut [u8]) -> Result<u32, Refusal>
     ensures answer { result ≡ answer_of (path_outcome register.now key.now (length out.old)) }
     ensures output { out.new ≡ output_of (path_outcome register.now key.now (length out.old)) (length out.old) }
 {
-    if register.len() <= SHORT {
-        let mut index = [0u64; FEW];
-        let mut chains = [0u64; 2 * FEW];
-        return path_with_rows(register, key, &mut index, &mut chains, out);
-    }
-    let mut index = [0u64; MOST];
-    let mut chains = [0u64; 2 * MOST];
-    path_with_rows(register, key, &mut index, &mut chains, out)
+    with_rows(
+        register,
+        &mut |index, chains| path_with_rows(register, key, index, chains, out),
+    )
 }

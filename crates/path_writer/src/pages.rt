@@ -6,7 +6,7 @@ ghost use Rattle.limits.specs.Limits.{longest};
 ghost use Rattle.index.specs.Accepted.{ChainRow};
 ghost use Rattle.path_writer.specs.Chains.{covers, pages_at, PathMeasured, ShortPath, PathSays};
 
-use answer::{Answer, Refusal};
+use answer::Refusal;
 use bytestring::{clear, write_bytes};
 use word::{above_in, end_in, from_in, page_in, records_in};
 use writer::refusal::refuse;
@@ -36,7 +36,7 @@ fn chain_pages(register: &[u8], word: u64, span: u64) -> &[u8]
 }
 
 // These bytes, where the output has room for them, and zeros after them.
-fn write_whole(bytes: &[u8], out: &mut [u8]) -> Answer
+fn write_whole(bytes: &[u8], out: &mut [u8]) -> Result<u32, Refusal>
     requires { length bytes.now ≤ longest }
     ensures { PathMeasured bytes.now (length out.old) result out.new }
 {
@@ -45,7 +45,7 @@ fn write_whole(bytes: &[u8], out: &mut [u8]) -> Answer
     }
     write_bytes(out, bytes);
     clear(&mut out[bytes.len()..]);
-    Answer::Done(bytes.len() as u32)
+    Ok(bytes.len() as u32)
 }
 
 // The pages of the chains that hold these positions, one after the other. The empty register has no chain, and its one page is the path.
@@ -56,7 +56,7 @@ pub fn write_path(
     low: usize,
     high: usize,
     out: &mut [u8],
-) -> Answer
+) -> Result<u32, Refusal>
     requires { ChainRow register.now chains.now n × ShortPath register.now low high }
     ensures { PathSays register.now low high (length out.old) result out.new }
 {
@@ -80,5 +80,5 @@ pub fn write_path(
         i += 1;
     }
     clear(&mut out[next..]);
-    Answer::Done(next as u32)
+    Ok(next as u32)
 }

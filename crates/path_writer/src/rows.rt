@@ -6,8 +6,8 @@ ghost use Rattle.promises.specs.Outcome.{answer_of, output_of};
 ghost use Rattle.path.specs.Path.{path_outcome};
 
 use crate::pages::write_path;
-use answer::Answer;
-use judge::{Register, judge};
+use answer::Refusal;
+use judge::judge;
 use key_calls::slash;
 use reading::accepted::{lower_bound, upper_bound};
 use writer::refusal::refuse;
@@ -19,14 +19,14 @@ pub fn path_with_rows(
     index: &mut [u64],
     chains: &mut [u64],
     out: &mut [u8],
-) -> Answer
+) -> Result<u32, Refusal>
     requires { RoomFor register.now 1 (length index.old) × RoomFor register.now 2 (length chains.old) }
     ensures answer { result ≡ answer_of (path_outcome register.now key.now (length out.old)) }
     ensures output { out.new ≡ output_of (path_outcome register.now key.now (length out.old)) (length out.old) }
 {
     match judge(register, index, chains) {
-        Register::Accepted(count, n) => path_accepted(register, key, index, count, chains, n, out),
-        Register::Refused(refusal) => refuse(out, refusal),
+        Ok((count, n)) => path_accepted(register, key, index, count, chains, n, out),
+        Err(refusal) => refuse(out, refusal),
     }
 }
 
@@ -39,12 +39,12 @@ fn path_accepted(
     chains: &[u64],
     n: usize,
     out: &mut [u8],
-) -> Answer
+) -> Result<u32, Refusal>
     requires { AcceptedIndex register.now index.now count × ChainRow register.now chains.now n }
     ensures answer { result ≡ answer_of (path_outcome register.now key.now (length out.old)) }
     ensures output { out.new ≡ output_of (path_outcome register.now key.now (length out.old)) (length out.old) }
 {
-    if let Answer::Refused(refusal) = slash(key) {
+    if let Err(refusal) = slash(key) {
         return refuse(out, refusal);
     }
     let low = lower_bound(register, index, count, key);

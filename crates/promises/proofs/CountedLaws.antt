@@ -1,4 +1,5 @@
 -- What a call answers and writes that counts something beside its table.
+use Rattle.std.specs.Prelude.{Result, Err}
 use Prim.Native.Nat.{ℕ}
 use mathlib.Core.Path.{◌≡◌, refl, ◌∙◌}
 use mathlib.Core.Option.{Option, none, some}
@@ -6,17 +7,15 @@ use mathlib.Core.List.{List}
 use Rattle.bytestring.specs.Bytes.{zeros}
 use Rattle.answer.specs.Inner.{with_second}
 use Rattle.answer.specs.declared.Refusal.{Refusal}
-use Rattle.answer.specs.declared.AnswerOfTwo.{AnswerOfTwo}
-use Rattle.answer.specs.declared.AnswerOfTwo.TheVariants.{Refused}
 use Rattle.tree.specs.Record.{Record}
 use Rattle.promises.specs.Outcome.{settle, answer_of, output_of}
 use Rattle.promises.specs.Counted.{CountedOutcome, stopped, settle_counted, counted_answer, counted_output}
 
-abbrev pub CountedSays : CountedOutcome → ℕ → AnswerOfTwo → List ℕ → Type 0
+abbrev pub CountedSays : CountedOutcome → ℕ → Result (ℕ × ℕ) Refusal → List ℕ → Type 0
 CountedSays o room answer out = (answer ≡ counted_answer o) × (out ≡ counted_output o room)
 
-pub counted_refused : {o : CountedOutcome} {r : Refusal} (room : ℕ) (answer : AnswerOfTwo) (out : List ℕ) → o ≡ stopped r
-    → (answer ≡ Refused r) × (out ≡ zeros room) → CountedSays o room answer out
+pub counted_refused : {o : CountedOutcome} {r : Refusal} (room : ℕ) (answer : Result (ℕ × ℕ) Refusal) (out : List ℕ) → o ≡ stopped r
+    → (answer ≡ Err r) × (out ≡ zeros room) → CountedSays o room answer out
 unfolding counted_answer counted_output
 counted_refused room answer out e says = (says.0 ∙ rw e, says.1 ∙ rw e)
 

@@ -1,4 +1,5 @@
 -- The proofs of the promises in specs/Promises.antt. Those of the calls' replies and of opened pages stand in Orders and OpenedLaws.
+use Rattle.std.specs.Prelude.{Ok}
 use Prim.Native.Nat.{ℕ, ◌≤◌}
 use mathlib.Core.Path.{◌≡◌, refl, sym, ap, ap₂, ◌∙◌}
 use mathlib.Core.Bool.{true}
@@ -17,7 +18,6 @@ use Rattle.answer.specs.Answer.{Said, refused_with, said}
 use Rattle.answer.specs.Inner.{FirstFits}
 use Rattle.answer.specs.declared.Refusal.{Refusal}
 use Rattle.answer.specs.declared.Refusal.TheVariants.{UnlawfulKey, WrongValue}
-use Rattle.answer.specs.declared.Answer.TheVariants.{Done}
 use Rattle.answer.proofs.Laws.{two_come_apart}
 use Rattle.key.specs.Key.{lawful}
 use Rattle.page.specs.Number.{number_bytes}
@@ -251,7 +251,7 @@ put_done r m f g =
 
 -- after a call that wrote a table
 module _ (c : Call) (s t : List ℕ) (g : Head) (e : outcome_of c.request s c.head ≡ moved t g) where
-  moved_answers : call_answer c s ≡ Done (length t)
+  moved_answers : call_answer c s ≡ Ok (length t)
   unfolding call_answer moved_answer
   moved_answers = rw e
 

@@ -1,10 +1,8 @@
 -- What a call answers and writes that counts something beside its table.
-use Rattle.std.specs.Prelude.{ℕ, ◌-◌, List, ◌++◌, length}
+use Rattle.std.specs.Prelude.{ℕ, ◌-◌, List, ◌++◌, length, Result, Ok, Err}
 use Rattle.std.proofs.Math.Option.{Option, none, some}
 use Rattle.bytestring.specs.Bytes.{zeros}
 use Rattle.answer.specs.declared.Refusal.{Refusal}
-use Rattle.answer.specs.declared.AnswerOfTwo.{AnswerOfTwo}
-use Rattle.answer.specs.declared.AnswerOfTwo.TheVariants.{Both, Refused}
 use Rattle.tree.specs.Record.{Record}
 use Rattle.tree.specs.Table.{table_of}
 
@@ -18,9 +16,9 @@ settle_counted none rs count = counted (table_of rs) count
 settle_counted (some r) rs count = stopped r
 
 -- The table's length and the count are answered; a refusal answers its number alone.
-unfoldable pub counted_answer : CountedOutcome → AnswerOfTwo
-counted_answer (stopped r) = Refused r
-counted_answer (counted t count) = Both (length t) count
+unfoldable pub counted_answer : CountedOutcome → Result (ℕ × ℕ) Refusal
+counted_answer (stopped r) = Err r
+counted_answer (counted t count) = Ok (length t, count)
 
 -- After the table the output is zero; on refusal it is wholly zero.
 unfoldable pub counted_output : CountedOutcome → ℕ → List ℕ

@@ -1,11 +1,9 @@
 -- What the calls that are lent a head answer, write and make of the head: put, remove, join and merge.
-use Rattle.std.specs.Prelude.{ℕ, ◌-◌, false, List, [], ◌∷◌, ◌++◌, length}
+use Rattle.std.specs.Prelude.{ℕ, ◌-◌, false, List, [], ◌∷◌, ◌++◌, length, Result, Ok, Err}
 use Rattle.std.proofs.Math.Option.{Option, none, some}
 use Rattle.bytestring.specs.Bytes.{zeros}
 use Rattle.answer.specs.declared.Refusal.{Refusal}
 use Rattle.answer.specs.declared.Refusal.TheVariants.{UnlawfulKey, WrongValue, KeyAbsent, UntrueHead}
-use Rattle.answer.specs.declared.Answer.{Answer}
-use Rattle.answer.specs.declared.Answer.TheVariants.{Done, Refused}
 use Rattle.key.specs.Key.{lawful}
 use Rattle.value.specs.Value.{is_value}
 use Rattle.tree.specs.Record.{Record, records}
@@ -75,9 +73,9 @@ unfoldable pub merge_outcome : List ℕ → Head → List ℕ → ℕ → Moved
 merge_outcome s h u room = on_first (judge s) h (merge_plan (judge u)) room
 
 -- The table's length is answered; a refusal answers its number alone.
-unfoldable pub moved_answer : Moved → Answer
-moved_answer (stopped r) = Refused r
-moved_answer (moved t h) = Done (length t)
+unfoldable pub moved_answer : Moved → Result ℕ Refusal
+moved_answer (stopped r) = Err r
+moved_answer (moved t h) = Ok (length t)
 
 -- After the table the output is zero; on refusal it is wholly zero.
 unfoldable pub moved_output : Moved → ℕ → List ℕ

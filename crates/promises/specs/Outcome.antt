@@ -1,14 +1,10 @@
 -- What each call answers and writes, from its arguments and the length of its output.
-use Rattle.std.specs.Prelude.{ℕ, ◌-◌, cond, ◌&&◌, List, [], ◌∷◌, ◌++◌, length, leb}
+use Rattle.std.specs.Prelude.{ℕ, ◌-◌, cond, ◌&&◌, List, [], ◌∷◌, ◌++◌, length, leb, Result, Ok, Err}
 use Rattle.std.proofs.Math.Option.{Option, none, some}
 use Rattle.limits.specs.Limits.{longest, most}
 use Rattle.bytestring.specs.Bytes.{zeros}
 use Rattle.answer.specs.declared.Refusal.{Refusal}
 use Rattle.answer.specs.declared.Refusal.TheVariants.{TooManyRecords, UnlawfulKey, KeyAbsent, NoRoom}
-use Rattle.answer.specs.declared.Answer.{Answer}
-use Rattle.answer.specs.declared.Answer.TheVariants.{Done, Refused}
-use Rattle.answer.specs.declared.AnswerOfTwo.{AnswerOfTwo}
-use Rattle.answer.specs.declared.AnswerOfTwo.TheVariants.{Both, Refused as BothRefused}
 use Rattle.key.specs.Key.{lawful, less}
 use Rattle.value.specs.Value.{value_length, codec_in}
 use Rattle.tree.specs.Record.{Record, records}
@@ -22,8 +18,8 @@ use Rattle.promises.specs.Map.{nth}
 -- ---- check
 -- The answer is 0, with the head of the register's set beside it; where a number is due, that number and the head of zeros.
 unfoldable pub check_verdict : Verdict → Headed
-check_verdict (refused r) = record { answer = Refused r; head = zero_head }
-check_verdict (accepted t) = record { answer = Done 0; head = head_of (records t) }
+check_verdict (refused r) = record { answer = Err r; head = zero_head }
+check_verdict (accepted t) = record { answer = Ok 0; head = head_of (records t) }
 
 unfoldable pub check_outcome : List ℕ → Headed
 check_outcome s = check_verdict (judge s)
@@ -38,16 +34,16 @@ place_of k (x ∷ m) (p ∷ ps) =
     cond (less k x.key) none (cond (less x.key k) later (some p))
 
 -- The place is answered, and the value's codec beside it.
-unfoldable pub answer_place : List ℕ → Option ℕ → AnswerOfTwo
-answer_place s none = BothRefused KeyAbsent
-answer_place s (some p) = Both p (codec_in s p)
+unfoldable pub answer_place : List ℕ → Option ℕ → Result (ℕ × ℕ) Refusal
+answer_place s none = Err KeyAbsent
+answer_place s (some p) = Ok (p, codec_in s p)
 
 -- The key is judged after the register, and absence last.
-unfoldable pub lookup_verdict : Verdict → List ℕ → List ℕ → AnswerOfTwo
-lookup_verdict (refused r) s k = BothRefused r
-lookup_verdict (accepted t) s k = cond (lawful k) (answer_place s (place_of k (records t) (places 0 t))) (BothRefused UnlawfulKey)
+unfoldable pub lookup_verdict : Verdict → List ℕ → List ℕ → Result (ℕ × ℕ) Refusal
+lookup_verdict (refused r) s k = Err r
+lookup_verdict (accepted t) s k = cond (lawful k) (answer_place s (place_of k (records t) (places 0 t))) (Err UnlawfulKey)
 
-unfoldable pub lookup_answer : List ℕ → List ℕ → AnswerOfTwo
+unfoldable pub lookup_answer : List ℕ → List ℕ → Result (ℕ × ℕ) Refusal
 lookup_answer s k = lookup_verdict (judge s) s k
 
 -- ---- list
@@ -69,10 +65,10 @@ unfoldable pub list_outcome : List ℕ → ℕ → ℕ → Listed
 list_outcome s n room = list_verdict (judge s) n room
 
 -- The key's length is answered, 0 past the end; the key goes to the output with zeros after it; the value is answered beside it.
-unfoldable pub list_answer : Listed → Answer
-list_answer (unlisted r) = Refused r
-list_answer past_the_end = Done 0
-list_answer (listed r) = Done (length r.key)
+unfoldable pub list_answer : Listed → Result ℕ Refusal
+list_answer (unlisted r) = Err r
+list_answer past_the_end = Ok 0
+list_answer (listed r) = Ok (length r.key)
 
 unfoldable pub list_key : Listed → ℕ → List ℕ
 list_key (unlisted r) room = zeros room
@@ -103,9 +99,9 @@ settle none rs = wrote (table_of rs)
 settle (some r) rs = stopped r
 
 -- A writing call answers its table's length; a refusal answers its number alone.
-unfoldable pub answer_of : Outcome → Answer
-answer_of (stopped r) = Refused r
-answer_of (wrote t) = Done (length t)
+unfoldable pub answer_of : Outcome → Result ℕ Refusal
+answer_of (stopped r) = Err r
+answer_of (wrote t) = Ok (length t)
 
 -- After the table the output is zero; on refusal it is wholly zero.
 unfoldable pub output_of : Outcome → ℕ → List ℕ

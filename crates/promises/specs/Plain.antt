@@ -1,10 +1,9 @@
 -- The plain map of demand 3, and the library's calls on the register that is held, over lists of calls.
-use Rattle.std.specs.Prelude.{ℕ, List, [], ◌∷◌, take}
+use Rattle.answer.specs.declared.Refusal.{Refusal}
+use Rattle.std.specs.Prelude.{ℕ, List, [], ◌∷◌, take, Result, Ok, Err}
 use Rattle.limits.specs.Limits.{longest}
 use Rattle.bytestring.specs.Bytes.{ByteString}
 use Rattle.answer.specs.Answer.{Said, said}
-use Rattle.answer.specs.declared.Answer.{Answer}
-use Rattle.answer.specs.declared.Answer.TheVariants.{Done, Refused}
 use Rattle.tree.specs.Record.{Record}
 use Rattle.tree.specs.Judge.{judge}
 use Rattle.head.specs.declared.Head.{Head}
@@ -65,7 +64,7 @@ outcome_of (remove_of k room) s h = remove_outcome s h k room
 outcome_of (join_of k v room) s h = join_outcome s h k v room
 outcome_of (merge_of u room) s h = merge_outcome s h u.list room
 
-unfoldable pub call_answer : Call → List ℕ → Answer
+unfoldable pub call_answer : Call → List ℕ → Result ℕ Refusal
 call_answer c s = moved_answer (outcome_of c.request s c.head)
 
 unfoldable pub call_output : Call → List ℕ → List ℕ
@@ -75,9 +74,9 @@ unfoldable pub call_head : Call → List ℕ → Head
 call_head c s = moved_head (outcome_of c.request s c.head) c.head
 
 -- After a call that is not refused the table it wrote, as long as its answer says, is held; after a refused one the register lent stays held.
-unfoldable pub next_held : Answer → List ℕ → List ℕ → List ℕ
-next_held (Done n) output s = take n output
-next_held (Refused r) output s = s
+unfoldable pub next_held : Result ℕ Refusal → List ℕ → List ℕ → List ℕ
+next_held (Ok n) output s = take n output
+next_held (Err r) output s = s
 
 abbrev pub held_after : Call → List ℕ → List ℕ
 held_after c s = next_held (call_answer c s) (call_output c s) s

@@ -1,4 +1,5 @@
 -- The answer of a lookup, by cases of the verdict, the key rule and the search.
+use Rattle.std.specs.Prelude.{Result, Ok, Err}
 use Prim.Native.Nat.{ℕ, ◌^◌, ◌<◌}
 use mathlib.Core.Bool.{true}
 use mathlib.Core.Path.{◌≡◌, sym, ap, subst, ◌∙◌}
@@ -8,8 +9,6 @@ use native.Mathlib.Omega.{arith}
 use Rattle.bytestring.specs.Bytes.{Bytes}
 use Rattle.answer.specs.declared.Refusal.{Refusal}
 use Rattle.answer.specs.declared.Refusal.TheVariants.{KeyAbsent}
-use Rattle.answer.specs.declared.Answer.TheVariants.{Refused}
-use Rattle.answer.specs.declared.AnswerOfTwo.TheVariants.{Both, Refused as BothRefused}
 use Rattle.value.specs.Value.{codec_in}
 use Rattle.key.specs.Key.{lawful, slash_answer}
 use Rattle.key.proofs.SlashLaws.{slash_refused}
@@ -20,17 +19,15 @@ use Rattle.index.specs.Accepted.{AcceptedIndex}
 use Rattle.promises.specs.Outcome.{place_of, lookup_answer, lookup_verdict, answer_place}
 use Rattle.promises.proofs.Lookups.{place_short}
 use Rattle.row.specs.Search.{place_found, PositionIs, SearchSays}
-use Rattle.row.specs.declared.search.Searched.{Searched}
-use Rattle.row.specs.declared.search.Searched.TheVariants.{At, Absent}
 
 -- ---- what the search for a key says
-module _ {s index : List ℕ} {count : ℕ} (a : AcceptedIndex s index count) (k : List ℕ) (r : Searched) (v : SearchSays s index count k r) where
+module _ {s index : List ℕ} {count : ℕ} (a : AcceptedIndex s index count) (k : List ℕ) (r : Result (ℕ × ℕ) ℕ) (v : SearchSays s index count k r) where
   pub searched : (place_found r ≡ place_of k (records a.tree) (places 0 a.tree)) × PositionIs k (records a.tree) r
   unfolding SearchSays
   searched = v a.tree a.judged a.size a.indexed
 
-  module _ (position place : ℕ) (e : r ≡ At position place) where
-    pub position_is : PositionIs k (records a.tree) (At position place)
+  module _ (position place : ℕ) (e : r ≡ Ok (position, place)) where
+    pub position_is : PositionIs k (records a.tree) (Ok (position, place))
     position_is = subst (PositionIs k (records a.tree)) e searched.1
 
     pub position_within : position < count
@@ -48,19 +45,19 @@ module _ {s index : List ℕ} {count : ℕ} (a : AcceptedIndex s index count) (k
     unfolding lookup_answer lookup_verdict
     answer_place_lem = rw (a.judged, l) (ap (answer_place s) searched.0)
 
-    pub answer_found : (position place codec : ℕ) → r ≡ At position place → codec ≡ codec_in s place → Both place codec ≡ lookup_answer s k
+    pub answer_found : (position place codec : ℕ) → r ≡ Ok (position, place) → codec ≡ codec_in s place → Ok (place, codec) ≡ lookup_answer s k
     unfolding answer_place
-    answer_found position place codec p e = ap (Both place) e ∙ ap (λ (x : Searched). answer_place s (place_found x)) (sym p) ∙ answer_place_lem
+    answer_found position place codec p e = ap ((λ y. Ok (place, y))) e ∙ ap (λ (x : Result (ℕ × ℕ) ℕ). answer_place s (place_found x)) (sym p) ∙ answer_place_lem
 
-    pub answer_absent : (position : ℕ) → r ≡ Absent position → BothRefused KeyAbsent ≡ lookup_answer s k
+    pub answer_absent : (position : ℕ) → r ≡ Err position → Err KeyAbsent ≡ lookup_answer s k
     unfolding answer_place
-    answer_absent position p = ap (λ (x : Searched). answer_place s (place_found x)) (sym p) ∙ answer_place_lem
+    answer_absent position p = ap (λ (x : Result (ℕ × ℕ) ℕ). answer_place s (place_found x)) (sym p) ∙ answer_place_lem
 
 module _ (s k : List ℕ) {r : Refusal} where
-  pub answer_refused : judge s ≡ refused r → BothRefused r ≡ lookup_answer s k
+  pub answer_refused : judge s ≡ refused r → Err r ≡ lookup_answer s k
   unfolding lookup_answer lookup_verdict
   answer_refused e = rw e
 
-  pub answer_unlawful : {index : List ℕ} {count : ℕ} → AcceptedIndex s index count → slash_answer k ≡ Refused r → BothRefused r ≡ lookup_answer s k
+  pub answer_unlawful : {index : List ℕ} {count : ℕ} → AcceptedIndex s index count → slash_answer k ≡ Err r → Err r ≡ lookup_answer s k
   unfolding lookup_answer lookup_verdict
   answer_unlawful a q = let w = slash_refused k r q in rw (a.judged, w.0, w.1)

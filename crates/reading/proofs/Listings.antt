@@ -1,4 +1,5 @@
 -- The records of an accepted register, by their number and beside a key.
+use Rattle.std.specs.Prelude.{Result, Ok, Err}
 use Prim.Native.Nat.{ℕ, ◌+◌, ◌-◌, ◌≤◌, ◌<◌}
 use mathlib.Core.Path.{◌≡◌, refl, sym, ap, ◌∙◌}
 use mathlib.Core.Option.{some}
@@ -11,8 +12,6 @@ use Rattle.bytestring.proofs.Tools.{drop_zeros}
 use Rattle.bytestring.specs.Bytes.{Bytes, zeros}
 use Rattle.answer.specs.declared.Refusal.{Refusal}
 use Rattle.answer.specs.declared.Refusal.TheVariants.{NoRoom, KeyAbsent}
-use Rattle.answer.specs.declared.Answer.{Answer}
-use Rattle.answer.specs.declared.Answer.TheVariants.{Done, Refused}
 use Rattle.key.proofs.Laws.{lawful_length}
 use Rattle.tree.specs.Record.{records, Record}
 use Rattle.tree.specs.Judge.{refused, judge}
@@ -43,16 +42,16 @@ use Rattle.reading.specs.Beside.{beside_record, beside_outcome}
 use Rattle.reading.specs.Positions.{accepted_records}
 
 -- ---- what a call of list answers and writes
-abbrev pub ListSays : Listed → ℕ → Answer → List ℕ → List ℕ → Type 0
+abbrev pub ListSays : Listed → ℕ → Result ℕ Refusal → List ℕ → List ℕ → Type 0
 ListSays outcome room r out value = (r ≡ list_answer outcome) × ((out ≡ list_key outcome room) × (value ≡ list_value outcome))
 
 -- a refusal
-pub record_refused : {o : Listed} {r : Refusal} (room : ℕ) (answer : Answer) (out value : List ℕ) → o ≡ unlisted r
-    → (answer ≡ Refused r) × ((out ≡ zeros room) × (value ≡ zeros value_length)) → ListSays o room answer out value
+pub record_refused : {o : Listed} {r : Refusal} (room : ℕ) (answer : Result ℕ Refusal) (out value : List ℕ) → o ≡ unlisted r
+    → (answer ≡ Err r) × ((out ≡ zeros room) × (value ≡ zeros value_length)) → ListSays o room answer out value
 unfolding list_answer list_key list_value
 record_refused room answer out value e says = (says.0 ∙ rw e, (says.1.0 ∙ rw e, says.1.1 ∙ rw e))
 
-pub record_same : {o p : Listed} (room : ℕ) (answer : Answer) (out value : List ℕ) → p ≡ o → ListSays p room answer out value → ListSays o room answer out value
+pub record_same : {o p : Listed} (room : ℕ) (answer : Result ℕ Refusal) (out value : List ℕ) → p ≡ o → ListSays p room answer out value → ListSays o room answer out value
 record_same room answer out value e says = rw (← e) says
 
 pub listed_refused : (s : List ℕ) (n room : ℕ) {r : Refusal} → judge s ≡ refused r → list_outcome s n room ≡ unlisted r
@@ -61,11 +60,11 @@ listed_refused s n room e = rw e
 
 module _ (room : ℕ) {out value : List ℕ} (o : out ≡ zeros room) (v : value ≡ zeros value_length) where
   -- without a record both outputs are zero
-  without_record : (outcome : Listed) → outcome ≡ past_the_end → ListSays outcome room (Done 0) out value
+  without_record : (outcome : Listed) → outcome ≡ past_the_end → ListSays outcome room (Ok 0) out value
   unfolding list_answer list_key list_value
   without_record outcome e = (rw e, (rw e o, rw e v))
 
-  pub list_past : {s index : List ℕ} {count : ℕ} (n : ℕ) → AcceptedIndex s index count → count ≤ n → ListSays (list_outcome s n room) room (Done 0) out value
+  pub list_past : {s index : List ℕ} {count : ℕ} (n : ℕ) → AcceptedIndex s index count → count ≤ n → ListSays (list_outcome s n room) room (Ok 0) out value
   unfolding list_outcome list_verdict list_record
   list_past {s} n a h =
       let p : length (records a.tree) ≤ n = omega (arith, a.size) in
@@ -105,11 +104,11 @@ module _ {s index : List ℕ} {count : ℕ} (a : AcceptedIndex s index count) (b
     size_small = omega (arith, says.holds.size, key_short)
 
     pub list_no_room : (room : ℕ) {out value : List ℕ} → out ≡ zeros room → value ≡ zeros value_length → room < found.size
-        → ListSays (list_outcome s n room) room (Refused NoRoom) out value
+        → ListSays (list_outcome s n room) room (Err NoRoom) out value
     unfolding list_outcome list_verdict list_record
     list_no_room room o v k =
         let e : room < length (key_of slot_of) = omega (arith, says.holds.size) in
-        record_refused room (Refused NoRoom) _ _ (rw (a.judged, nth_of_slot, lt-leb (length (key_of slot_of)) room e)) (refl, (o, v))
+        record_refused room (Err NoRoom) _ _ (rw (a.judged, nth_of_slot, lt-leb (length (key_of slot_of)) room e)) (refl, (o, v))
 
     key_held : length buffer ≡ 256 → take found.size buffer ≡ key_of slot_of
     key_held e = says.holds.bytes ∙ take_all (length buffer) (key_of slot_of) (omega (arith, key_short))
@@ -118,14 +117,14 @@ module _ {s index : List ℕ} {count : ℕ} (a : AcceptedIndex s index count) (b
     pub list_record_lem : (room : ℕ) (out cleared value : List ℕ) → length buffer ≡ 256 → found.size ≤ room → cleared ≡ zeros room
         → out ≡ take found.size buffer ++ drop (length (take found.size buffer)) cleared
         → (found.value + 32 ≤ length s → value ≡ value_in s found.value)
-        → ListSays (list_outcome s n room) room (Done found.size) out value
+        → ListSays (list_outcome s n room) room (Ok found.size) out value
     unfolding list_outcome list_verdict list_record list_answer list_key list_value
     list_record_lem room out cleared value e k z o v =
         let x : Slot = slot_of in
         let fits : length (key_of x) ≤ room = omega (arith, says.holds.size) in
         let q : list_outcome s n room ≡ listed x.item = rw (a.judged, nth_of_slot, le-leb (length (key_of x)) room fits) in
         let place : found.value + 32 ≤ length s = omega (arith, says.value, value_within stands) in (
-          rw q (ap Done says.holds.size),
+          rw q (ap Ok says.holds.size),
           (rw q (o ∙ rw (key_held e, z, drop_zeros (length (key_of x)) room)), rw q (v place ∙ rw says.value stands.bytes)),
         )
 
@@ -167,7 +166,7 @@ module _ (b : Bool) (s k : List ℕ) (room : ℕ) where
   beside_refused e = rw (beside_is, e)
 
   module _ {index : List ℕ} {count : ℕ} (a : AcceptedIndex s index count) where
-    pub beside_unlawful : {r : Refusal} → slash_answer k ≡ Refused r → beside_outcome b s k room ≡ unlisted r
+    pub beside_unlawful : {r : Refusal} → slash_answer k ≡ Err r → beside_outcome b s k room ≡ unlisted r
     unfolding beside_key
     beside_unlawful q = let w = slash_refused k _ q in rw (beside_is, a.judged, w.0, w.1)
 

@@ -1,4 +1,5 @@
 -- The verdict on a register, as judge answers it, and what an accepted register has.
+use Rattle.std.specs.Prelude.{Result, Ok, Err}
 use Prim.Native.Nat.{ℕ, ◌*◌, ◌≤◌, ◌+◌, ◌^◌, ◌<◌}
 use mathlib.Core.Path.{◌≡◌, sym, ap, subst, ◌∙◌}
 use mathlib.Core.List.{List}
@@ -14,8 +15,6 @@ use Rattle.tree.proofs.Sizes.{table_length}
 use Rattle.tree.proofs.Accept.{accepted_table}
 use Rattle.index.specs.Accepted.{AcceptedIndex, ChainRow}
 use Rattle.judge.specs.Verdict.{RoomFor, RegisterSays}
-use Rattle.judge.specs.declared.Register.{Register}
-use Rattle.judge.specs.declared.Register.TheVariants.{Accepted, Refused as RefusedRegister}
 use Rattle.tree.specs.Record.{records}
 use Rattle.tree.proofs.Laws.{accepted_table}
 use Rattle.row.specs.Row.{Row, records_of}
@@ -23,15 +22,15 @@ use Rattle.row.proofs.Rows.{accepted_short, accepted_row, accepted_records_lem, 
 use Rattle.promises.proofs.MapLaws.{Sorted, rising_sorted}
 
 -- ---- what the answered judgement says
-module _ (s index row : List ℕ) (x : Register) (says : RegisterSays s x index row) where
-  pub accepted_rows : {count n : ℕ} → x ≡ Accepted count n → AcceptedIndex s index count × ChainRow s row n
-  accepted_rows e = subst (λ (y : Register). RegisterSays s y index row) e says
+module _ (s index row : List ℕ) (x : Result (ℕ × ℕ) Refusal) (says : RegisterSays s x index row) where
+  pub accepted_rows : {count n : ℕ} → x ≡ Ok (count, n) → AcceptedIndex s index count × ChainRow s row n
+  accepted_rows e = subst (λ (y : Result (ℕ × ℕ) Refusal). RegisterSays s y index row) e says
 
-  pub accepted_index : {count n : ℕ} → x ≡ Accepted count n → AcceptedIndex s index count
+  pub accepted_index : {count n : ℕ} → x ≡ Ok (count, n) → AcceptedIndex s index count
   accepted_index e = (accepted_rows e).0
 
-  pub judged_refused : {r : Refusal} → x ≡ RefusedRegister r → judge s ≡ refused r
-  judged_refused e = subst (λ (y : Register). RegisterSays s y index row) e says
+  pub judged_refused : {r : Refusal} → x ≡ Err r → judge s ≡ refused r
+  judged_refused e = subst (λ (y : Result (ℕ × ℕ) Refusal). RegisterSays s y index row) e says
 
 -- a register has few records
 pub accepted_few : {s index : List ℕ} {count : ℕ} → Bytes s → AcceptedIndex s index count → count ≤ 4096
@@ -47,13 +46,6 @@ accepted_long {s} b a =
 
 -- ---- room for the rows
 module _ (s : List ℕ) (words : ℕ) where
-  -- a short register has at most 255 records
-  pub index_short : length s ≤ 13515 → 256 ≤ words → RoomFor s 1 words
-  index_short h i k few long = omega arith
-
-  pub chains_short : length s ≤ 13515 → 512 ≤ words → RoomFor s 2 words
-  chains_short h i k few long = omega arith
-
   pub index_long : 4096 ≤ words → RoomFor s 1 words
   index_long i k few long = omega arith
 

@@ -6,7 +6,7 @@ ghost use Rattle.row.specs.Search.{count_below, count_up_to};
 ghost use Rattle.promises.specs.Outcome.{list_outcome, list_answer, list_key, list_value};
 ghost use Rattle.reading.specs.Positions.{accepted_records};
 
-use answer::{Answer, Refusal};
+use answer::Refusal;
 use bytestring::{clear, write_bytes};
 use limits::LONGEST_KEY;
 use row::fetch::fetch_from;
@@ -21,7 +21,7 @@ pub fn record_at(
     n: usize,
     out: &mut [u8],
     value: &mut Value,
-) -> Answer
+) -> Result<u32, Refusal>
     requires { AcceptedIndex register.now index.now count × (n < count) }
     ensures answer { result ≡ list_answer (list_outcome register.now n (length out.old)) }
     ensures key { out.new ≡ list_key (list_outcome register.now n (length out.old)) (length out.old) }
@@ -33,14 +33,14 @@ pub fn record_at(
     let found = fetch_from(register, index[n], &mut buffer, 0);
     let size = found.size;
     if LONGEST_KEY < size {
-        return Answer::Done(0);
+        return Ok(0);
     }
     if out.len() < size {
-        return Answer::Refused(Refusal::NoRoom);
+        return Err(Refusal::NoRoom);
     }
     write_bytes(out, &buffer[..size]);
     *value = value_at(register, found.value);
-    Answer::Done(size as u32)
+    Ok(size as u32)
 }
 
 // How many records stand before a key.

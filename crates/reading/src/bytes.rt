@@ -2,19 +2,18 @@
 ghost use Rattle.std.specs.Prelude.{◌≡◌, length};
 ghost use Rattle.bytestring.specs.Bytes.{zeros};
 ghost use Rattle.value.specs.Value.{value_length};
-ghost use Rattle.answer.specs.declared.Answer.TheVariants.{Refused};
 
-use answer::{Answer, Refusal};
+use answer::Refusal;
 use bytestring::clear;
 use value::{VALUE, Value};
 
 // A refusal where a record is asked for: its number is answered, and both outputs are zero.
-pub fn refuse_record(out: &mut [u8], value: &mut Value, refusal: Refusal) -> Answer
-    ensures answer { result ≡ Refused refusal }
+pub fn refuse_record(out: &mut [u8], value: &mut Value, refusal: Refusal) -> Result<u32, Refusal>
+    ensures answer { result ≡ Err refusal }
     ensures key { out.new ≡ zeros (length out.old) }
     ensures value { value.new ≡ zeros value_length }
 {
     clear(out);
     *value = [0u8; VALUE];
-    Answer::Refused(refusal)
+    Err(refusal)
 }

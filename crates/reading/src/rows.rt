@@ -11,11 +11,11 @@ ghost use Rattle.reading.specs.Positions.{accepted_records};
 
 use crate::accepted::{lower_bound, record_at};
 use crate::bytes::refuse_record;
-use answer::{Answer, AnswerOfTwo, Refusal};
+use answer::Refusal;
 use bytestring::clear;
-use judge::{Register, judge};
+use judge::judge;
 use key_calls::slash;
-use row::search::{Searched, search};
+use row::search::search;
 use value::{VALUE, Value, codec_at};
 
 // The place of the digest of the value under a key, and the value's codec.
@@ -24,29 +24,30 @@ pub fn lookup_with_rows(
     key: &[u8],
     index: &mut [u64],
     chains: &mut [u64],
-) -> AnswerOfTwo
+) -> Result<(u32, u32), Refusal>
     requires { RoomFor register.now 1 (length index.old) × RoomFor register.now 2 (length chains.old) }
     ensures { result ≡ lookup_answer register.now key.now }
 {
     match judge(register, index, chains) {
-        Register::Accepted(count, _) => lookup_accepted(register, index, count, key),
-        Register::Refused(refusal) => AnswerOfTwo::Refused(refusal),
+        Ok((count, _)) => lookup_accepted(register, index, count, key),
+        Err(refusal) => Err(refusal),
     }
 }
 
 // The same of a register that is accepted.
-fn lookup_accepted(register: &[u8], index: &[u64], count: usize, key: &[u8]) -> AnswerOfTwo
+fn lookup_accepted(
+    register: &[u8],
+    index: &[u64],
+    count: usize,
+    key: &[u8],
+) -> Result<(u32, u32), Refusal>
     requires { AcceptedIndex register.now index.now count }
     ensures { result ≡ lookup_answer register.now key.now }
 {
-    if let Answer::Refused(refusal) = slash(key) {
-        return AnswerOfTwo::Refused(refusal);
-    }
+    slash(key)?;
     match search(register, index, count, key) {
-        Searched::At(_, place) => {
-            AnswerOfTwo::Both(place as u32, codec_at(register, place) as u32)
-        }
-        Searched::Absent(_) => AnswerOfTwo::Refused(Refusal::KeyAbsent),
+        Ok((_, place)) => Ok((place as u32, u32::from(codec_at(register, place)))),
+        Err(_) => Err(Refusal::KeyAbsent),
     }
 }
 
@@ -58,15 +59,15 @@ pub fn list_with_rows(
     chains: &mut [u64],
     out: &mut [u8],
     value: &mut Value,
-) -> Answer
+) -> Result<u32, Refusal>
     requires { RoomFor register.now 1 (length index.old) × RoomFor register.now 2 (length chains.old) }
     ensures answer { result ≡ list_answer (list_outcome register.now n (length out.old)) }
     ensures key { out.new ≡ list_key (list_outcome register.now n (length out.old)) (length out.old) }
     ensures value { value.new ≡ list_value (list_outcome register.now n (length out.old)) }
 {
     match judge(register, index, chains) {
-        Register::Accepted(count, _) => list_accepted(register, index, count, n, out, value),
-        Register::Refused(refusal) => refuse_record(out, value, refusal),
+        Ok((count, _)) => list_accepted(register, index, count, n, out, value),
+        Err(refusal) => refuse_record(out, value, refusal),
     }
 }
 
@@ -78,7 +79,7 @@ fn list_accepted(
     n: u64,
     out: &mut [u8],
     value: &mut Value,
-) -> Answer
+) -> Result<u32, Refusal>
     requires { AcceptedIndex register.now index.now count }
     ensures answer { result ≡ list_answer (list_outcome register.now n (length out.old)) }
     ensures key { out.new ≡ list_key (list_outcome register.now n (length out.old)) (length out.old) }
@@ -87,7 +88,7 @@ fn list_accepted(
     if count as u64 <= n {
         clear(out);
         *value = [0u8; VALUE];
-        return Answer::Done(0);
+        return Ok(0);
     }
     record_at(register, index, count, n as usize, out, value)
 }
@@ -101,17 +102,15 @@ pub fn beside_with_rows(
     chains: &mut [u64],
     out: &mut [u8],
     value: &mut Value,
-) -> Answer
+) -> Result<u32, Refusal>
     requires { RoomFor register.now 1 (length index.old) × RoomFor register.now 2 (length chains.old) }
     ensures answer { result ≡ list_answer (beside_outcome after register.now key.now (length out.old)) }
     ensures key { out.new ≡ list_key (beside_outcome after register.now key.now (length out.old)) (length out.old) }
     ensures value { value.new ≡ list_value (beside_outcome after register.now key.now (length out.old)) }
 {
     match judge(register, index, chains) {
-        Register::Accepted(count, _) => {
-            beside_accepted(register, index, count, key, after, out, value)
-        }
-        Register::Refused(refusal) => refuse_record(out, value, refusal),
+        Ok((count, _)) => { beside_accepted(register, index, count, key, after, out, value) }
+        Err(refusal) => refuse_record(out, value, refusal),
     }
 }
 
@@ -124,13 +123,13 @@ fn beside_accepted(
     after: bool,
     out: &mut [u8],
     value: &mut Value,
-) -> Answer
+) -> Result<u32, Refusal>
     requires { AcceptedIndex register.now index.now count }
     ensures answer { result ≡ list_answer (beside_outcome after register.now key.now (length out.old)) }
     ensures key { out.new ≡ list_key (beside_outcome after register.now key.now (length out.old)) (length out.old) }
     ensures value { value.new ≡ list_value (beside_outcome after register.now key.now (length out.old)) }
 {
-    if let Answer::Refused(refusal) = slash(key) {
+    if let Err(refusal) = slash(key) {
         return refuse_record(out, value, refusal);
     }
     let position = position_beside(register, index, count, key, after);

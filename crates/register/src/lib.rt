@@ -1,4 +1,4 @@
-// The calls on one register. A short register is judged with short rows, so that little is cleared.
+// The calls on one register.
 #![tactic(auto)]
 
 ghost use Rattle.std.specs.Prelude.{◌≡◌, length};
@@ -8,10 +8,10 @@ ghost use Rattle.promises.specs.Range.{at_or_after_outcome, before_outcome, run_
 ghost use Rattle.reading.specs.Beside.{beside_outcome};
 ghost use Rattle.writing.specs.Writing.{set_outcome};
 
-use answer::{Answer, AnswerOfTwo};
+use answer::Refusal;
 use checking::check_with_rows;
 use head::{Head, Headed};
-use limits::{FEW, MOST, SHORT};
+use lending::with_rows;
 use reading::rows::{beside_with_rows, list_with_rows, lookup_with_rows};
 use value::Value;
 use writing::rows::{remove_with_rows, run_with_rows, set_value_with_rows};
@@ -20,49 +20,42 @@ use writing::rows::{remove_with_rows, run_with_rows, set_value_with_rows};
 pub fn check(register: &[u8]) -> Headed
     ensures { result ≡ check_outcome register.now }
 {
-    if register.len() <= SHORT {
-        let mut index = [0u64; FEW];
-        let mut chains = [0u64; 2 * FEW];
-        return check_with_rows(register, &mut index, &mut chains);
-    }
-    let mut index = [0u64; MOST];
-    let mut chains = [0u64; 2 * MOST];
-    check_with_rows(register, &mut index, &mut chains)
+    with_rows(
+        register,
+        &mut |index, chains| check_with_rows(register, index, chains),
+    )
 }
 
 // Public call: the place of the digest of the value under a key, and the value's codec.
-pub fn lookup(register: &[u8], key: &[u8]) -> AnswerOfTwo
+pub fn lookup(register: &[u8], key: &[u8]) -> Result<(u32, u32), Refusal>
     ensures { result ≡ lookup_answer register.now key.now }
 {
-    if register.len() <= SHORT {
-        let mut index = [0u64; FEW];
-        let mut chains = [0u64; 2 * FEW];
-        return lookup_with_rows(register, key, &mut index, &mut chains);
-    }
-    let mut index = [0u64; MOST];
-    let mut chains = [0u64; 2 * MOST];
-    lookup_with_rows(register, key, &mut index, &mut chains)
+    with_rows(
+        register,
+        &mut |index, chains| lookup_with_rows(register, key, index, chains),
+    )
 }
 
 // Public call: the n-th record in key order, n from 0. Its key goes to the output with zeros after it and its value beside it; the key's
 // length is answered. Past the end the answer is 0, and both outputs are zero, as they are on refusal.
-pub fn list(register: &[u8], n: u64, out: &mut [u8], value: &mut Value) -> Answer
+pub fn list(register: &[u8], n: u64, out: &mut [u8], value: &mut Value) -> Result<u32, Refusal>
     ensures answer { result ≡ list_answer (list_outcome register.now n (length out.old)) }
     ensures key { out.new ≡ list_key (list_outcome register.now n (length out.old)) (length out.old) }
     ensures value { value.new ≡ list_value (list_outcome register.now n (length out.old)) }
 {
-    if register.len() <= SHORT {
-        let mut index = [0u64; FEW];
-        let mut chains = [0u64; 2 * FEW];
-        return list_with_rows(register, n, &mut index, &mut chains, out, value);
-    }
-    let mut index = [0u64; MOST];
-    let mut chains = [0u64; 2 * MOST];
-    list_with_rows(register, n, &mut index, &mut chains, out, value)
+    with_rows(
+        register,
+        &mut |index, chains| list_with_rows(register, n, index, chains, out, value),
+    )
 }
 
 // Public call: the first record at or after a key, as list gives one.
-pub fn at_or_after(register: &[u8], key: &[u8], out: &mut [u8], value: &mut Value) -> Answer
+pub fn at_or_after(
+    register: &[u8],
+    key: &[u8],
+    out: &mut [u8],
+    value: &mut Value,
+) -> Result<u32, Refusal>
     ensures answer { result ≡ list_answer (at_or_after_outcome register.now key.now (length out.old)) }
     ensures key { out.new ≡ list_key (at_or_after_outcome register.now key.now (length out.old)) (length out.old) }
     ensures value { value.new ≡ list_value (at_or_after_outcome register.now key.now (length out.old)) }
@@ -71,7 +64,12 @@ pub fn at_or_after(register: &[u8], key: &[u8], out: &mut [u8], value: &mut Valu
 }
 
 // Public call: the last record before a key, as list gives one.
-pub fn before(register: &[u8], key: &[u8], out: &mut [u8], value: &mut Value) -> Answer
+pub fn before(
+    register: &[u8],
+    key: &[u8],
+    out: &mut [u8],
+    value: &mut Value,
+) -> Result<u32, Refusal>
     ensures answer { result ≡ list_answer (before_outcome register.now key.now (length out.old)) }
     ensures key { out.new ≡ list_key (before_outcome register.now key.now (length out.old)) (length out.old) }
     ensures value { value.new ≡ list_value (before_outcome register.now key.now (length out.old)) }
@@ -80,34 +78,32 @@ pub fn before(register: &[u8], key: &[u8], out: &mut [u8], value: &mut Value) ->
 }
 
 // The record on one side of a key: the first at or after it, or the last before it.
-fn beside(register: &[u8], key: &[u8], after: bool, out: &mut [u8], value: &mut Value) -> Answer
+fn beside(
+    register: &[u8],
+    key: &[u8],
+    after: bool,
+    out: &mut [u8],
+    value: &mut Value,
+) -> Result<u32, Refusal>
     ensures answer { result ≡ list_answer (beside_outcome after register.now key.now (length out.old)) }
     ensures key { out.new ≡ list_key (beside_outcome after register.now key.now (length out.old)) (length out.old) }
     ensures value { value.new ≡ list_value (beside_outcome after register.now key.now (length out.old)) }
 {
-    if register.len() <= SHORT {
-        let mut index = [0u64; FEW];
-        let mut chains = [0u64; 2 * FEW];
-        return beside_with_rows(register, key, after, &mut index, &mut chains, out, value);
-    }
-    let mut index = [0u64; MOST];
-    let mut chains = [0u64; 2 * MOST];
-    beside_with_rows(register, key, after, &mut index, &mut chains, out, value)
+    with_rows(
+        register,
+        &mut |index, chains| beside_with_rows(register, key, after, index, chains, out, value),
+    )
 }
 
 // Public call: the register of the records from a first key up to and including a last.
-pub fn run(register: &[u8], first: &[u8], last: &[u8], out: &mut [u8]) -> Answer
+pub fn run(register: &[u8], first: &[u8], last: &[u8], out: &mut [u8]) -> Result<u32, Refusal>
     ensures answer { result ≡ answer_of (run_outcome register.now first.now last.now (length out.old)) }
     ensures output { out.new ≡ output_of (run_outcome register.now first.now last.now (length out.old)) (length out.old) }
 {
-    if register.len() <= SHORT {
-        let mut index = [0u64; FEW];
-        let mut chains = [0u64; 2 * FEW];
-        return run_with_rows(register, first, last, &mut index, &mut chains, out);
-    }
-    let mut index = [0u64; MOST];
-    let mut chains = [0u64; 2 * MOST];
-    run_with_rows(register, first, last, &mut index, &mut chains, out)
+    with_rows(
+        register,
+        &mut |index, chains| run_with_rows(register, first, last, index, chains, out),
+    )
 }
 
 // The call on a head by value: the register with a value set under a key. Its table is written with zeros after it, its length is answered and
@@ -139,31 +135,11 @@ fn set_value(
     ensures headed { result ≡ headed (set_outcome greater register.now head key.now value.now (length out.old)) head }
     ensures output { out.new ≡ moved_output (set_outcome greater register.now head key.now value.now (length out.old)) (length out.old) }
 {
-    if register.len() <= SHORT {
-        let mut index = [0u64; FEW];
-        let mut chains = [0u64; 2 * FEW];
-        return set_value_with_rows(
-            register,
-            head,
-            key,
-            value,
-            greater,
-            &mut index,
-            &mut chains,
-            out,
-        );
-    }
-    let mut index = [0u64; MOST];
-    let mut chains = [0u64; 2 * MOST];
-    set_value_with_rows(
+    with_rows(
         register,
-        head,
-        key,
-        value,
-        greater,
-        &mut index,
-        &mut chains,
-        out,
+        &mut |index, chains| set_value_with_rows(
+            register, head, key, value, greater, index, chains, out,
+        ),
     )
 }
 
@@ -172,12 +148,8 @@ pub fn remove(register: &[u8], head: Head, key: &[u8], out: &mut [u8]) -> Headed
     ensures headed { result ≡ headed (remove_outcome register.now head key.now (length out.old)) head }
     ensures output { out.new ≡ moved_output (remove_outcome register.now head key.now (length out.old)) (length out.old) }
 {
-    if register.len() <= SHORT {
-        let mut index = [0u64; FEW];
-        let mut chains = [0u64; 2 * FEW];
-        return remove_with_rows(register, head, key, &mut index, &mut chains, out);
-    }
-    let mut index = [0u64; MOST];
-    let mut chains = [0u64; 2 * MOST];
-    remove_with_rows(register, head, key, &mut index, &mut chains, out)
+    with_rows(
+        register,
+        &mut |index, chains| remove_with_rows(register, head, key, index, chains, out),
+    )
 }

@@ -1,5 +1,8 @@
 -- Rounds by the sums of constants and words.
-use Rattle.std.proofs.Common.{◌≡◌, ℕ, suc, ◌+◌, ◌*◌, ◌<◌, ◌≤◌, List, length, get_or, take, drop, set, sym, refl, ap, ◌∙◌, add-one, arith, get_or-set_other}
+use Rattle.std.proofs.Common.{◌≡◌, ℕ, zero, suc, ◌+◌, ◌-◌, ◌*◌, ◌<◌, ◌≤◌, List, [], ◌∷◌, length, get_or, take, drop, set, sym, refl, ap, ap₂, ◌∙◌, add-one, arith, get_or-set_other}
+use Rattle.std.specs.List.{fold}
+use Rattle.std.proofs.lemmas.List.Sums.{fold-append}
+use lib.Seq.{take-add, take-suc}
 use Rattle.fips180.specs.Words.{◌⊞◌, Ch, Σ1}
 use Rattle.fips180.specs.Hash.{K, schedule, round, rounds, plus, compress, after_blocks}
 use Rattle.fips180.specs.declared.State.{State}
@@ -40,31 +43,35 @@ round_by_sum s k w v e =
     let y : ℕ = Ch s.e s.f s.g in
     rw (e, no_constant x y, together (x ⊞ y) k w)
 
--- one round more
-round_more : (w v : List ℕ) (s x : State) (t n : ℕ) → t < 64 → t + 1 ≡ n → Sums w v → x ≡ rounds t w s → round x 0 (get_or v t 0) ≡ rounds n w s
-unfolding rounds Made
-round_more w v s x t n h en sums e =
-    let f : rounds (suc t) w s ≡ rounds n w s = ap (λ (k : ℕ). rounds k w s) (sym (add-one t) ∙ en) in
-    ap (λ (z : State). round z 0 (get_or v t 0)) e ∙ round_by_sum _ _ _ _ (sums t h) ∙ f
+-- the rounds of these sums
+abbrev by_sums : State → List ℕ → State
+by_sums s v = fold (λ (x : State) (y : ℕ). round x 0 y) s v
 
--- eight rounds more, by the sums from t on
-pub eight_rounds : (w v : List ℕ) (s x y : State) (t : ℕ) → t + 8 ≤ 64 → Sums w v → x ≡ rounds t w s
-    → y ≡ round (round (round (round (round (round (round (round x 0 (get_or v t 0)) 0 (get_or v (t + 1) 0)) 0 (get_or v (t + 2) 0)) 0 (get_or v (t + 3) 0)) 0 (get_or v (t + 4) 0)) 0 (get_or v (t + 5) 0)) 0 (get_or v (t + 6) 0)) 0 (get_or v (t + 7) 0)
-    → y ≡ rounds (t + 8) w s
-eight_rounds w v s x y t h sums e f =
-    let one : (x : State) (n k : ℕ) → n < 64 → n + 1 ≡ k → x ≡ rounds n w s → round x 0 (get_or v n 0) ≡ rounds k w s = λ x n k g i. round_more w v s x n k g i sums in
-    f ∙ one _ (t + 7) (t + 8) (omega arith) (omega arith)
-    (one _ (t + 6) (t + 7) (omega arith) (omega arith)
-    (one _ (t + 5) (t + 6) (omega arith) (omega arith)
-    (one _ (t + 4) (t + 5) (omega arith) (omega arith)
-    (one _ (t + 3) (t + 4) (omega arith) (omega arith)
-    (one _ (t + 2) (t + 3) (omega arith) (omega arith)
-    (one _ (t + 1) (t + 2) (omega arith) (omega arith)
-    (one _ t (t + 1) (omega arith) refl e)))))))
+by_sums_is : (w v : List ℕ) (s : State) (t : ℕ) → length v ≡ 64 → Sums w v → t ≤ 64 → by_sums s (take t v) ≡ rounds t w s
+unfolding rounds Made
+by_sums_is w v s zero l sums h = refl
+by_sums_is w v s (suc t) l sums h =
+    ap (by_sums s) (take-suc v t 0 (omega arith))
+    ∙ fold-append (λ (x : State) (y : ℕ). round x 0 y) s (take t v) (get_or v t 0 ∷ [])
+    ∙ ap (λ (x : State). round x 0 (get_or v t 0)) (by_sums_is w v s t l sums (omega arith))
+    ∙ round_by_sum _ _ _ _ (sums t (omega arith))
+
+-- eight rounds more, by the sums from 8 * k on
+pub eight_more : (v : List ℕ) (s x y : State) (k : ℕ) → x ≡ by_sums s (take (8 * k) v) → y ≡ by_sums x (take (8 * k + 8 - 8 * k) (drop (8 * k) v))
+    → y ≡ by_sums s (take (8 * (k + 1)) v)
+eight_more v s x y k e f =
+    let n : 8 * (k + 1) ≡ 8 * k + 8 = omega arith in
+    let m : 8 * k + 8 - 8 * k ≡ 8 = omega arith in
+    f ∙ ap₂ by_sums e (ap (λ (n : ℕ). take n (drop (8 * k) v)) m)
+    ∙ sym (fold-append (λ (x : State) (y : ℕ). round x 0 y) s (take (8 * k) v) (take 8 (drop (8 * k) v)))
+    ∙ ap (by_sums s) (sym (ap (λ (n : ℕ). take n v) n ∙ take-add (8 * k) 8 v))
 
 -- after the last round the hash value from before is added
-pub rounds_end : (w : List ℕ) (s x y : State) (t : ℕ) → t ≡ 64 → x ≡ rounds t w s → y ≡ plus x s → y ≡ plus (rounds 64 w s) s
-rounds_end w s x y t e f g = g ∙ ap (λ (z : State). plus z s) (f ∙ ap (λ (k : ℕ). rounds k w s) e)
+pub rounds_end : (w v : List ℕ) (s x y : State) (k : ℕ) → 8 ≤ k → k ≤ 8 → length v ≡ 64 → Sums w v → x ≡ by_sums s (take (8 * k) v) → y ≡ plus x s
+    → y ≡ plus (rounds 64 w s) s
+rounds_end w v s x y k h g l sums e f =
+    let n : 8 * k ≡ 64 = omega arith in
+    f ∙ ap (λ (z : State). plus z s) (e ∙ ap (λ (n : ℕ). by_sums s (take n v)) n ∙ by_sums_is w v s 64 l sums (omega arith))
 
 pub compressed : (m w : List ℕ) (s y : State) → w ≡ schedule 64 m → y ≡ plus (rounds 64 w s) s → y ≡ compress s m
 unfolding compress

@@ -1,9 +1,12 @@
 -- The words of a schedule one after the other, and those of four schedules beside each other.
-use Rattle.std.proofs.Common.{◌≡◌, ℕ, zero, suc, ◌+◌, ◌-◌, ◌*◌, ◌/◌, ◌%◌, ◌<◌, ◌≤◌, List, [], ◌∷◌, ◌++◌, length, get_or, take, drop, set, sym, refl, ap, ◌∙◌, subst, ap₂, ⊎_elim, eq-or-lt_of_le, arith, length-append, length-set, get_or-drop, get_or-take, ext_get_or, le-ltb, lt-ltb}
+use Rattle.std.proofs.Common.{◌≡◌, ℕ, zero, suc, ◌+◌, ◌-◌, ◌*◌, ◌/◌, ◌%◌, ◌<◌, ◌≤◌, List, [], ◌∷◌, ◌++◌, length, get_or, take, drop, set, sym, refl, ap, ◌∙◌, ap₂, ⊎_elim, eq-or-lt_of_le, arith, length-append, get_or-drop, get_or-take, ext_get_or, le-ltb, lt-ltb}
+use Rattle.std.proofs.Math.Nat.{mul_comm, mul-add, mod-lt}
+use Rattle.std.proofs.lemmas.Nat.{div-mul-add, mod-mul-add, div-add-mod', le-div, div_below}
+use Rattle.std.proofs.lemmas.Grind.{rows}
 use lib.ListN.{get_or-append}
 use lib.Seq.{get_or_at}
 use Rattle.fips180.specs.Hash.{schedule, W, word, next}
-use Rattle.rounds.specs.Inner.{extended, Made, Begun, Beside}
+use Rattle.rounds.specs.Inner.{Made, Beside}
 use Rattle.rounds.proofs.Making.{made_at, made_more}
 
 length_schedule : (n : ℕ) (m : List ℕ) → length (schedule n m) ≡ n
@@ -43,42 +46,9 @@ word_high m t w2 w7 w15 w16 h g e2 e7 e15 e16 =
     ∙ rw (le-ltb t 16 h, same m t 64 (t - 2) (omega arith) (omega arith), same m t 64 (t - 7) (omega arith) (omega arith), same m t 64 (t - 15) (omega arith) (omega arith), same m t 64 (t - 16) (omega arith) (omega arith))
     (sym (rw (e2, e7, e15, e16))))
 
-pub begun_loaded : (m w : List ℕ) (t v : ℕ) → t < 16 → length w ≡ 64 → v ≡ word m (4 * t) → Begun t m w → Begun (t + 1) m (set w t v)
-begun_loaded m w t v h l e b = made_more _ w t v (omega arith) (e ∙ sym (word_low m t h)) b
-
 -- all 64 words stand
-pub whole : (m w : List ℕ) → length w ≡ 64 → Begun 64 m w → w ≡ schedule 64 m
-unfolding Made
-whole m w l b = ext_get_or 0 w (schedule 64 m) (l ∙ sym (length_schedule 64 m)) (λ t h. b t (omega arith))
-
-word_more : (m w v : List ℕ) (t n : ℕ) → t + 1 ≡ n → 16 ≤ t → t < 64 → v ≡ extended w t → (length w ≡ 64) × Begun t m w → (length v ≡ 64) × Begun n m v
-unfolding Made
-word_more m w v t n en lo hi e b =
-    let before : (k : ℕ) → 0 < k → k ≤ 16 → get_or w (t - k) 0 ≡ get_or (schedule 64 m) (t - k) 0 = λ k pos le. b.1 (t - k) (omega arith) in
-    let f = word_high m t _ _ _ _ lo hi (before 2 (omega arith) (omega arith)) (before 7 (omega arith) (omega arith)) (before 15 (omega arith) (omega arith)) (before 16 (omega arith) (omega arith)) in
-    (ap length e ∙ length-set w t _ ∙ b.0, subst (λ (l : List ℕ). Begun n m l) (sym e) (made_at _ (extended w t) en (made_more _ w t _ (omega arith) f b.1)))
-
--- eight words more
-pub eight_words : (m w0 w1 w2 w3 w4 w5 w6 w7 w8 : List ℕ) (t : ℕ) → 16 ≤ t → t + 8 ≤ 64
-    → w1 ≡ extended w0 t → w2 ≡ extended w1 (t + 1) → w3 ≡ extended w2 (t + 2) → w4 ≡ extended w3 (t + 3)
-    → w5 ≡ extended w4 (t + 4) → w6 ≡ extended w5 (t + 5) → w7 ≡ extended w6 (t + 6) → w8 ≡ extended w7 (t + 7)
-    → (length w0 ≡ 64) × Begun t m w0 → (length w8 ≡ 64) × Begun (t + 8) m w8
-eight_words m w0 w1 w2 w3 w4 w5 w6 w7 w8 t lo hi e1 e2 e3 e4 e5 e6 e7 e8 b =
-    word_more m w7 w8 (t + 7) (t + 8) (omega arith) (omega arith) (omega arith) e8
-    (word_more m w6 w7 (t + 6) (t + 7) (omega arith) (omega arith) (omega arith) e7
-    (word_more m w5 w6 (t + 5) (t + 6) (omega arith) (omega arith) (omega arith) e6
-    (word_more m w4 w5 (t + 4) (t + 5) (omega arith) (omega arith) (omega arith) e5
-    (word_more m w3 w4 (t + 3) (t + 4) (omega arith) (omega arith) (omega arith) e4
-    (word_more m w2 w3 (t + 2) (t + 3) (omega arith) (omega arith) (omega arith) e3
-    (word_more m w1 w2 (t + 1) (t + 2) (omega arith) (omega arith) (omega arith) e2
-    (word_more m w0 w1 t (t + 1) refl lo (omega arith) e1 b)))))))
-
--- the word at a place of four schedules
-abbrev placed : List ℕ → ℕ → ℕ
-placed m p = get_or (schedule 64 (take 64 (drop (64 * (p % 4)) m))) (p / 4) 0
-
-placed_at : (m : List ℕ) (p i t : ℕ) → p % 4 ≡ i → p / 4 ≡ t → placed m p ≡ get_or (schedule 64 (take 64 (drop (64 * i) m))) t 0
-placed_at m p i t ei et = ap₂ (λ (i t : ℕ). get_or (schedule 64 (take 64 (drop (64 * i) m))) t 0) ei et
+whole : (m w : List ℕ) → length w ≡ 64 → ((t : ℕ) → t < 64 → get_or w t 0 ≡ get_or (schedule 64 m) t 0) → w ≡ schedule 64 m
+whole m w l f = ext_get_or 0 w (schedule 64 m) (l ∙ sym (length_schedule 64 m)) (λ t h. f t (omega arith))
 
 block_word : (m : List ℕ) (i t : ℕ) → t < 16 → word (take 64 (drop (64 * i) m)) (4 * t) ≡ word m (64 * i + 4 * t)
 block_word m i t h =
@@ -87,48 +57,63 @@ block_word m i t h =
     let at : ℕ = 64 * i + 4 * t in
     rw (byte (4 * t) at (omega arith) refl, byte (4 * t + 1) (at + 1) (omega arith) (omega arith), byte (4 * t + 2) (at + 2) (omega arith) (omega arith), byte (4 * t + 3) (at + 3) (omega arith) (omega arith))
 
--- the word t of block i is loaded
-beside_loaded : (m w : List ℕ) (i t p q n v : ℕ) → i < 4 → t < 16 → p ≡ 4 * t + i → q ≡ 64 * i + 4 * t → p + 1 ≡ n → length w ≡ 256
-    → v ≡ word m q → Beside p m w → Beside n m (set w p v)
-beside_loaded m w i t p q n v hi ht ep eq en l e b =
-    made_at (placed m) (set w p v) en
-    (made_more (placed m) w p v (omega arith)
-    (e ∙ ap (word m) eq ∙ sym (block_word m i t ht) ∙ sym (word_low (take 64 (drop (64 * i) m)) t ht) ∙ sym (placed_at m p i t (omega arith) (omega arith))) b)
+-- ---- blocks beside each other
+module _ (lanes : ℕ) (m w : List ℕ) where
+  -- the word at a place
+  abbrev placed : ℕ → ℕ
+  placed p = get_or (schedule 64 (take 64 (drop (64 * (p % lanes)) m))) (p / lanes) 0
 
--- the words t of the four blocks are loaded
-pub row_loaded : (m w : List ℕ) (t v0 v1 v2 v3 : ℕ) → t < 16 → length w ≡ 256 → v0 ≡ word m (4 * t) → v1 ≡ word m (64 + 4 * t)
-    → v2 ≡ word m (128 + 4 * t) → v3 ≡ word m (192 + 4 * t) → Beside (4 * t) m w
-    → (let r : List ℕ = set (set (set (set w (4 * t) v0) (4 * t + 1) v1) (4 * t + 2) v2) (4 * t + 3) v3 in (length r ≡ 256) × Beside (4 * (t + 1)) m r)
-row_loaded m w t v0 v1 v2 v3 h l e0 e1 e2 e3 b =
-    let w1 : List ℕ = set w (4 * t) v0 in
-    let w2 : List ℕ = set w1 (4 * t + 1) v1 in
-    let w3 : List ℕ = set w2 (4 * t + 2) v2 in
-    let l1 : length w1 ≡ 256 = length-set w (4 * t) v0 ∙ l in
-    let l2 : length w2 ≡ 256 = length-set w1 (4 * t + 1) v1 ∙ l1 in
-    let l3 : length w3 ≡ 256 = length-set w2 (4 * t + 2) v2 ∙ l2 in (
-      length-set w3 (4 * t + 3) v3 ∙ l3,
-      beside_loaded m w3 3 t (4 * t + 3) _ _ v3 (omega arith) h refl refl (omega arith) l3 e3
-          (beside_loaded m w2 2 t (4 * t + 2) _ (4 * t + 3) v2 (omega arith) h refl refl (omega arith) l2 e2
-          (beside_loaded m w1 1 t (4 * t + 1) _ (4 * t + 2) v1 (omega arith) h refl refl (omega arith) l1 e1
-          (beside_loaded m w 0 t (4 * t) (4 * t) (4 * t + 1) v0 (omega arith) h (omega arith) (omega arith) refl l e0 b))),
-    )
+  placed_at : (p i t : ℕ) → i < lanes → p ≡ lanes * t + i → placed p ≡ get_or (schedule 64 (take 64 (drop (64 * i) m))) t 0
+  placed_at p i t h e =
+      let f : p ≡ t * lanes + i = e ∙ ap (λ (x : ℕ). x + i) (mul_comm lanes t) in
+      let ei : p % lanes ≡ i = ap (λ (x : ℕ). x % lanes) f ∙ mod-mul-add t lanes i h in
+      let et : p / lanes ≡ t = ap (λ (x : ℕ). x / lanes) f ∙ div-mul-add t lanes i h in
+      ap₂ (λ (i t : ℕ). get_or (schedule 64 (take 64 (drop (64 * i) m))) t 0) ei et
 
--- the word at p is made of those before it in its block
-pub beside_next : (m w : List ℕ) (p v : ℕ) → 64 ≤ p → p < 256 → length w ≡ 256
-    → v ≡ next (get_or w (p - 8) 0) (get_or w (p - 28) 0) (get_or w (p - 60) 0) (get_or w (p - 64) 0)
-    → Beside p m w → Beside (p + 1) m (set w p v)
-unfolding Made
-beside_next m w p v lo hi l e b =
-    let s : List ℕ = take 64 (drop (64 * (p % 4)) m) in
-    let before : (n : ℕ) → 0 < n → n ≤ 16 → get_or w (p - 4 * n) 0 ≡ get_or (schedule 64 s) (p / 4 - n) 0
-    = λ n pos le. b (p - 4 * n) (omega arith) ∙ placed_at m (p - 4 * n) (p % 4) (p / 4 - n) (omega arith) (omega arith) in
-    made_more (placed m) w p v (omega arith)
-    (e ∙ word_high s (p / 4) _ _ _ _ (omega arith) (omega arith) (before 2 (omega arith) (omega arith)) (before 7 (omega arith) (omega arith)) (before 15 (omega arith) (omega arith)) (before 16 (omega arith) (omega arith))) b
+  -- the word t of block i is loaded
+  pub word_loaded : (i t v : ℕ) → i < lanes → t < 16 → length w ≡ 64 * lanes → v ≡ word m (64 * i + 4 * t)
+      → Beside lanes (lanes * t + i) m w → Beside lanes (lanes * t + (i + 1)) m (set w (lanes * t + i) v)
+  word_loaded i t v hi ht l e b =
+      let p : ℕ = lanes * t + i in
+      let in_w : p < length w = grind (arith, rows) in
+      let n : p + 1 ≡ lanes * t + (i + 1) = omega arith in
+      made_at placed (set w p v) n
+      (made_more placed w p v in_w
+      (e ∙ sym (block_word m i t ht) ∙ sym (word_low (take 64 (drop (64 * i) m)) t ht) ∙ sym (placed_at p i t hi refl)) b)
 
--- every fourth word from i on is of the schedule of block i
-pub lane : (m w r : List ℕ) (i n : ℕ) → i < 4 → n ≡ 64 → length r ≡ 64 → Made (λ (t : ℕ). get_or w (4 * t + i) 0) n r → Beside 256 m w
-    → r ≡ schedule 64 (take 64 (drop (64 * i) m))
-unfolding Made
-lane m w r i n hi en l f b =
-    whole (take 64 (drop (64 * i) m)) r l
-    (λ t h. f t (omega arith) ∙ b (4 * t + i) (omega arith) ∙ placed_at m (4 * t + i) i t (omega arith) (omega arith))
+  -- the word at p is made of those before it in its block
+  pub word_made : (from i v : ℕ) → 16 * lanes ≤ from → from + i < 64 * lanes → length w ≡ 64 * lanes
+      → (let p : ℕ = from + i in v ≡ next (get_or w (p - 2 * lanes) 0) (get_or w (p - 7 * lanes) 0) (get_or w (p - 15 * lanes) 0) (get_or w (p - 16 * lanes) 0))
+      → Beside lanes (from + i) m w → Beside lanes (from + (i + 1)) m (set w (from + i) v)
+  unfolding Made
+  word_made from i v lo hi l e b =
+      let p : ℕ = from + i in
+      let some : 0 < lanes = omega arith in
+      let t : ℕ = p / lanes in
+      let j : ℕ = p % lanes in
+      let hj : j < lanes = mod-lt p some in
+      let ep : p ≡ lanes * t + j = sym (div-add-mod' p lanes) ∙ ap (λ (x : ℕ). x + j) (mul_comm t lanes) in
+      let low : 16 ≤ t = le-div 16 p lanes some (omega arith) in
+      let high : t < 64 = div_below p lanes 64 some hi in
+      let s : List ℕ = take 64 (drop (64 * j) m) in
+      let before : (n a : ℕ) → 0 < a → n ≤ 16 → a ≡ lanes * n → get_or w (p - a) 0 ≡ get_or (schedule 64 s) (t - n) 0
+      = λ n a pos le ea.
+      let u : ℕ = t - n in
+      let et : t ≡ n + u = omega arith in
+      let d : lanes * t ≡ lanes * n + lanes * u = ap (λ (x : ℕ). lanes * x) et ∙ mul-add lanes n u in
+      b (p - a) (omega arith) ∙ placed_at (p - a) j u hj (omega arith) in
+      let n : p + 1 ≡ from + (i + 1) = omega arith in
+      made_at placed (set w p v) n
+      (made_more placed w p v (omega arith)
+      (e ∙ word_high s t _ _ _ _ low high (before 2 (2 * lanes) (omega arith) (omega arith) (omega arith)) (before 7 (7 * lanes) (omega arith) (omega arith) (omega arith)) (before 15 (15 * lanes) (omega arith) (omega arith) (omega arith)) (before 16 (16 * lanes) (omega arith) (omega arith) (omega arith))) b)
+
+  -- the words at the places of block i are its schedule
+  pub lane : (r : List ℕ) (i n : ℕ) → i < lanes → 64 ≤ n → length r ≡ 64 → Made (λ (t : ℕ). get_or w (lanes * t + i) 0) n r → Beside lanes (64 * lanes) m w
+      → r ≡ schedule 64 (take 64 (drop (64 * i) m))
+  unfolding Made
+  lane r i n hi en l f b =
+      whole (take 64 (drop (64 * i) m)) r l
+      (λ t h. f t (omega arith) ∙ b (lanes * t + i) (grind (arith, rows)) ∙ placed_at (lanes * t + i) i t hi refl)
+
+pub no_row : (lanes : ℕ) → 0 ≡ lanes * 0
+no_row lanes = omega arith

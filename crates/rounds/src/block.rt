@@ -1,11 +1,11 @@
 // FIPS 180-4, section 6.2.2, steps 2 to 4: the 64 rounds.
 ghost use Rattle.std.specs.Prelude.{◌≡◌};
+ghost use Rattle.std.specs.List.{fold};
 ghost use Rattle.fips180.specs.Words.{Ch};
 ghost use Rattle.fips180.specs.Hash.{round, rounds, plus};
 ghost use Rattle.rounds.specs.Inner.{Sums};
 
 use fips180::{State, big_sigma_0, big_sigma_1, maj};
-use std::num::wrapping_add_u32 as add;
 
 // The constants of the 64 rounds.
 const ROUND: [u32; 64] = [
@@ -86,42 +86,29 @@ fn ch_of(x: u32, y: u32, z: u32) -> u32
 fn round_of(s: State, v: u32) -> State
     ensures { result ≡ round s 0 v }
 {
-    let t1 = add(add(add(s.h, big_sigma_1(s.e)), ch_of(s.e, s.f, s.g)), v);
-    let t2 = add(big_sigma_0(s.a), maj(s.a, s.b, s.c));
+    let t1 = s
+        .h
+        .wrapping_add(big_sigma_1(s.e))
+        .wrapping_add(ch_of(s.e, s.f, s.g))
+        .wrapping_add(v);
+    let t2 = big_sigma_0(s.a).wrapping_add(maj(s.a, s.b, s.c));
     State {
-        a: add(t1, t2),
+        a: t1.wrapping_add(t2),
         b: s.a,
         c: s.b,
         d: s.c,
-        e: add(s.d, t1),
+        e: s.d.wrapping_add(t1),
         f: s.e,
         g: s.f,
         h: s.g,
     }
 }
 
-// Eight rounds: fewer turns of the loop over the 64.
-fn eight_rounds(
-    s: State,
-    v0: u32,
-    v1: u32,
-    v2: u32,
-    v3: u32,
-    v4: u32,
-    v5: u32,
-    v6: u32,
-    v7: u32,
-) -> State
-    ensures { result ≡ round (round (round (round (round (round (round (round s 0 v0) 0 v1) 0 v2) 0 v3) 0 v4) 0 v5) 0 v6) 0 v7 }
+// The rounds of these sums, one after the other.
+fn rounds_by(s: State, sums: &[u32]) -> State
+    ensures { result ≡ fold (λ x v. round x 0 v) s sums.now }
 {
-    let x1 = round_of(s, v0);
-    let x2 = round_of(x1, v1);
-    let x3 = round_of(x2, v2);
-    let x4 = round_of(x3, v3);
-    let x5 = round_of(x4, v4);
-    let x6 = round_of(x5, v5);
-    let x7 = round_of(x6, v6);
-    round_of(x7, v7)
+    sums.iter().fold(s, |x, v| round_of(x, *v))
 }
 
 // The sums of the constants and the words of a schedule.
@@ -129,50 +116,37 @@ fn sums(w: &[u32; 64]) -> [u32; 64]
     ensures { Sums w.now result }
 {
     let mut v = ROUND;
-    let mut t = 0;
-    while t < 64 {
-        v[t] = add(v[t], w[t]);
-        t += 1;
+    for t in 0..64 {
+        v[t] = v[t].wrapping_add(w[t]);
     }
     v
 }
 
 // The sum of two hash values, word by word.
+#[tactic(auto, unfolding(fips180::specs::Hash::plus))]
 fn plus_of(s: State, t: State) -> State
     ensures { result ≡ plus s t }
 {
     State {
-        a: add(s.a, t.a),
-        b: add(s.b, t.b),
-        c: add(s.c, t.c),
-        d: add(s.d, t.d),
-        e: add(s.e, t.e),
-        f: add(s.f, t.f),
-        g: add(s.g, t.g),
-        h: add(s.h, t.h),
+        a: s.a.wrapping_add(t.a),
+        b: s.b.wrapping_add(t.b),
+        c: s.c.wrapping_add(t.c),
+        d: s.d.wrapping_add(t.d),
+        e: s.e.wrapping_add(t.e),
+        f: s.f.wrapping_add(t.f),
+        g: s.g.wrapping_add(t.g),
+        h: s.h.wrapping_add(t.h),
     }
 }
 
-// The hash value after the block whose schedule is w.
+// The hash value after the block whose schedule is w. Eight rounds in a turn are faster than one loop over all 64.
 pub fn rounds_of(s: State, w: &[u32; 64]) -> State
     ensures { result ≡ plus (rounds 64 w.now s) s }
 {
     let v = sums(w);
     let mut x = s;
-    let mut t = 0;
-    while t < 64 {
-        x = eight_rounds(
-            x,
-            v[t],
-            v[t + 1],
-            v[t + 2],
-            v[t + 3],
-            v[t + 4],
-            v[t + 5],
-            v[t + 6],
-            v[t + 7],
-        );
-        t += 8;
+    for k in 0..8 {
+        x = rounds_by(x, &v[8 * k..8 * k + 8]);
     }
     plus_of(x, s)
 }

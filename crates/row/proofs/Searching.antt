@@ -1,4 +1,7 @@
 -- Where a key stands among the records of an index, by halves of it.
+use Rattle.std.specs.declared.cmp.Ordering.{Ordering}
+use Rattle.std.specs.declared.cmp.Ordering.TheVariants.{Less, Equal, Greater}
+use Rattle.std.specs.Prelude.{Result, Ok, Err}
 use Prim.Native.Nat.{ℕ, zero, suc, ◌+◌, ◌-◌, ◌/◌, ◌≤◌, ◌<◌}
 use mathlib.Core.Path.{◌≡◌, refl, sym, ap, subst, ◌∙◌}
 use mathlib.Core.Bool.{true, false}
@@ -13,8 +16,6 @@ use borrow.Table.Steps.{cases}
 use Rattle.bytestring.proofs.Tools.{and_inv}
 use Rattle.bytestring.specs.Bytes.{Bytes}
 use Rattle.key.specs.Key.{lawful, less, order}
-use Rattle.key.specs.declared.Order.{Order}
-use Rattle.key.specs.declared.Order.TheVariants.{Less, Equal, Greater}
 use Rattle.key.proofs.Laws.{lawful_length, less_irreflexive, less_transitive, less_asymmetric, less_same, order_less, order_equal, order_greater}
 use Rattle.page_keys.specs.Buffer.{HoldsKey}
 use Rattle.page_keys.proofs.Buffers.{holds_whole}
@@ -33,8 +34,6 @@ use Rattle.row.specs.Fetch.{Fetched, FetchSays}
 use Rattle.row.specs.declared.fetch.FetchedAt.{FetchedAt}
 use Rattle.row.proofs.Memories.{no_note}
 use Rattle.row.specs.Search.{key_at, count_below, count_up_to, PositionFits, SearchSays, CountSays}
-use Rattle.row.specs.declared.search.Searched.{Searched}
-use Rattle.row.specs.declared.search.Searched.TheVariants.{At, Absent}
 use Rattle.row.proofs.Counting.{front_ends}
 
 -- ---- the keys of a row of records
@@ -127,7 +126,7 @@ module _ (s index : List ℕ) (count : ℕ) (k : List ℕ) where
   search_begins t a c x = record { below = λ i g. absurd (omega arith); above = λ i g l. absurd (omega arith) }
 
   module _ (low high : ℕ) (u : Narrowed s index count k low high) (within : high ≤ count) where
-    pub search_ends : low ≤ high → high ≤ low → SearchSays s index count k (Absent low)
+    pub search_ends : low ≤ high → high ≤ low → SearchSays s index count k (Err low)
     unfolding Narrowed SearchSays
     search_ends h g t a c x =
         let same : high ≡ low = omega arith in
@@ -200,11 +199,11 @@ module _ (s index : List ℕ) (count : ℕ) (k : List ℕ) where
             ∙ sym (place_there k (records t) (places 0 t) places_length middle (omega arith)
             (before_there k (records t) fit.order middle (omega arith) q) q)
 
-      pub search_over : 256 < found.size → SearchSays s index count k (Absent low)
+      pub search_over : 256 < found.size → SearchSays s index count k (Err low)
       unfolding SearchSays
       search_over h t a c x = absurd (omega (arith, short t a c x))
 
-      module _ (whole : found.size ≤ length buffer) (o : Order) (e : o ≡ order (take found.size buffer) k) where
+      module _ (whole : found.size ≤ length buffer) (o : Ordering) (e : o ≡ order (take found.size buffer) k) where
         key_held : (t : SpeltTree) (a : judge s ≡ accepted t) (c : count ≡ length (records t)) (x : Indexes index (slots 0 0 t))
             → take found.size buffer ≡ key_at (records t) middle
         key_held t a c x = holds_whole (holds t a c x) whole
@@ -217,35 +216,35 @@ module _ (s index : List ℕ) (count : ℕ) (k : List ℕ) where
         unfolding Narrowed
         search_below q t a c x = narrow_high t a c x (order_greater (key_at (records t) middle) k (rw (← key_held t a c x) (sym e ∙ q)))
 
-        pub search_meets : o ≡ Equal → SearchSays s index count k (At middle found.value)
+        pub search_meets : o ≡ Equal → SearchSays s index count k (Ok (middle, found.value))
         unfolding SearchSays
         search_meets q t a c x =
             let same = sym (key_held t a c x) ∙ order_equal (take found.size buffer) k (sym e ∙ q) in
             (met t a c x same, (omega arith, same, below_there k (records t) (fit t a c x).order middle (omega arith) same))
 
 -- ---- the counts, from what the search ensures
-module _ (count : ℕ) (r : Searched) (v : PositionFits count r) where
-  pub found_fits : (position place : ℕ) → r ≡ At position place → position < count
+module _ (count : ℕ) (r : Result (ℕ × ℕ) ℕ) (v : PositionFits count r) where
+  pub found_fits : (position place : ℕ) → r ≡ Ok (position, place) → position < count
   found_fits position place e = rw e at v
 
-  pub absent_fits : (position : ℕ) → r ≡ Absent position → position ≤ count
+  pub absent_fits : (position : ℕ) → r ≡ Err position → position ≤ count
   absent_fits position e = rw e at v
 
-module _ (s index : List ℕ) (count : ℕ) (k : List ℕ) (r : Searched) (v : SearchSays s index count k r) where
-  pub below_found : (position place : ℕ) → r ≡ At position place → CountSays (count_below k) s index count position
+module _ (s index : List ℕ) (count : ℕ) (k : List ℕ) (r : Result (ℕ × ℕ) ℕ) (v : SearchSays s index count k r) where
+  pub below_found : (position place : ℕ) → r ≡ Ok (position, place) → CountSays (count_below k) s index count position
   unfolding SearchSays CountSays
   below_found position place e t a c x = ((rw e at v) t a c x).1.2
 
-  pub below_absent : (position : ℕ) → r ≡ Absent position → CountSays (count_below k) s index count position
+  pub below_absent : (position : ℕ) → r ≡ Err position → CountSays (count_below k) s index count position
   unfolding SearchSays CountSays
   below_absent position e t a c x = ((rw e at v) t a c x).1.0
 
-  pub up_to_found : Bytes s → (position place : ℕ) → r ≡ At position place → CountSays (count_up_to k) s index count (position + 1)
+  pub up_to_found : Bytes s → (position place : ℕ) → r ≡ Ok (position, place) → CountSays (count_up_to k) s index count (position + 1)
   unfolding SearchSays CountSays
   up_to_found bytes position place e t a c x =
       let found = ((rw e at v) t a c x).1 in
       rw (add-one position) (up_to_there k (records t) (accepted_table s bytes t a).fit.order position found.0 found.1)
 
-  pub up_to_absent : (position : ℕ) → r ≡ Absent position → CountSays (count_up_to k) s index count position
+  pub up_to_absent : (position : ℕ) → r ≡ Err position → CountSays (count_up_to k) s index count position
   unfolding SearchSays CountSays
   up_to_absent position e t a c x = ((rw e at v) t a c x).1.1

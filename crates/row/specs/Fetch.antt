@@ -1,13 +1,11 @@
 -- What the fetching of one register's record says.
-use Rattle.std.specs.Prelude.{ℕ, ◌≡◌, List}
+use Rattle.std.specs.Prelude.{ℕ, ◌≡◌, List, Option, Some, None}
 use Rattle.word.specs.Word.{page_in, entry_in}
 use Rattle.page_keys.specs.Buffer.{HoldsKey}
 use Rattle.index.specs.Slot.{Slot, key_of}
 use Rattle.index.specs.Standing.{Steps, SlotAt}
 use Rattle.row.specs.Memory.{NoteHolds}
 use Rattle.row.specs.declared.fetch.FetchedAt.{FetchedAt}
-use Rattle.row.specs.declared.fetch.Start.{Start}
-use Rattle.row.specs.declared.fetch.Start.TheVariants.{At, Nowhere}
 
 -- The key of the slot at the word's places is held, its value's place is found, and its entry ends at the place answered.
 pub record Fetched (s : List ℕ) (x : Slot) (w : SlotAt s x) (buffer : List ℕ) (r : FetchedAt) : Type 0 where
@@ -32,6 +30,6 @@ OnTheWay s page entry note buffer₀ at buffer size =
     (x : Slot) (w : SlotAt s x) → page ≡ x.page → entry ≡ x.entry → NoteHolds s note buffer₀ → Toward s x.entry at w.before buffer size
 
 -- The way begins at a place, whatever the buffer is; or no slot stands in a page there.
-abbrev pub StartSays : List ℕ → ℕ → ℕ → ℕ → Start → Type 0
-StartSays s page entry note (At first size) = (buffer : List ℕ) → OnTheWay s page entry note buffer first buffer size
-StartSays s page entry note Nowhere = (x : Slot) → SlotAt s x → page ≡ x.page → ⊥
+abbrev pub StartSays : List ℕ → ℕ → ℕ → ℕ → Option (ℕ × ℕ) → Type 0
+StartSays s page entry note (Some (first, size)) = (buffer : List ℕ) → OnTheWay s page entry note buffer first buffer size
+StartSays s page entry note None = (x : Slot) → SlotAt s x → page ≡ x.page → ⊥

@@ -4,7 +4,7 @@ ghost use Rattle.row.specs.Row.{source_of};
 ghost use Rattle.row.specs.Fetch.{StartSays, FetchSays};
 
 use page_keys::extend_key;
-use page_reader::{EntryRead, NumberRead, locate_entry, read_page_start};
+use page_reader::{locate_entry, read_page_start};
 use word::{entry_in, is_first, page_in, size_in};
 
 // The length of a key, which a buffer holds, and the places of its value and of what follows its entry.
@@ -15,25 +15,18 @@ pub struct FetchedAt {
     pub next: usize,
 }
 
-// Where the way to an entry begins, and the length of the key held there.
-#[derive(Clone, Copy)]
-enum Start {
-    At(usize, usize),
-    Nowhere,
-}
-
 // The first entry of a page, before which no key is held.
-fn first_of(s: &[u8], page: usize) -> Start
+fn first_of(s: &[u8], page: usize) -> Option<(usize, usize)>
     ensures { (entry note : ℕ) → StartSays s.now page entry note result }
 {
     match read_page_start(s, page) {
-        NumberRead::Number(_, first) => Start::At(first, 0),
-        NumberRead::NumberStop(_) => Start::Nowhere,
+        Ok((_, first)) => Some((first, 0)),
+        Err(_) => None,
     }
 }
 
 // From the key that the note is about, where it stands before the entry in its page, or else from the first entry of the page.
-fn way_to(s: &[u8], page: usize, entry: usize, note: u64) -> Start
+fn way_to(s: &[u8], page: usize, entry: usize, note: u64) -> Option<(usize, usize)>
     ensures { StartSays s.now page entry note result }
 {
     let next = entry_in(note);
@@ -46,7 +39,7 @@ fn way_to(s: &[u8], page: usize, entry: usize, note: u64) -> Start
     if entry < next {
         return first_of(s, page);
     }
-    Start::At(next, size_in(note))
+    Some((next, size_in(note)))
 }
 
 // No record stands at the places of the word.
@@ -66,30 +59,30 @@ pub fn fetch_from(s: &[u8], word: u64, buffer: &mut [u8], note: u64) -> FetchedA
     let page = page_in(word);
     let entry = entry_in(word);
     match way_to(s, page, entry, note) {
-        Start::At(first, held) => {
+        Some((first, held)) => {
             let mut size = held;
             let mut at = first;
             while at < entry {
                 match locate_entry(s, at) {
-                    EntryRead::Entry(e) => {
+                    Ok(e) => {
                         size = extend_key(buffer, size, s, e.shares, e.remainder, e.size);
                         at = e.end;
                     }
-                    EntryRead::EntryStop(_) => {
+                    Err(_) => {
                         return nowhere();
                     }
                 }
             }
             match locate_entry(s, at) {
-                EntryRead::Entry(e) => FetchedAt {
+                Ok(e) => FetchedAt {
                     size: extend_key(buffer, size, s, e.shares, e.remainder, e.size),
                     value: e.value,
                     next: e.end,
                 },
-                EntryRead::EntryStop(_) => nowhere(),
+                Err(_) => nowhere(),
             }
         }
-        Start::Nowhere => nowhere(),
+        None => nowhere(),
     }
 }
 

@@ -3,18 +3,11 @@ ghost use Rattle.std.specs.Prelude.{◌≤◌, length};
 ghost use Rattle.row.specs.Search.{count_below, count_up_to, PositionFits, SearchSays, CountSays};
 
 use crate::fetch::fetch_from;
-use key::Order;
 use key_order::compare;
 use limits::LONGEST_KEY;
+use std::cmp::Ordering;
 
-// The position of the key's record and the place of its value; or the number of records before the key.
-#[derive(Clone, Copy)]
-pub enum Searched {
-    At(usize, usize),
-    Absent(usize),
-}
-
-pub fn search(s: &[u8], index: &[u64], count: usize, key: &[u8]) -> Searched
+pub fn search(s: &[u8], index: &[u64], count: usize, key: &[u8]) -> Result<(usize, usize), usize>
     requires { count ≤ length index.now }
     ensures says { SearchSays s.now index.now count key.now result }
     ensures fits { PositionFits count result }
@@ -27,21 +20,21 @@ pub fn search(s: &[u8], index: &[u64], count: usize, key: &[u8]) -> Searched
         let found = fetch_from(s, index[middle], &mut buffer, 0);
         let size = found.size;
         if LONGEST_KEY < size {
-            return Searched::Absent(low);
+            return Err(low);
         }
         match compare(&buffer[..size], key) {
-            Order::Less => {
+            Ordering::Less => {
                 low = middle + 1;
             }
-            Order::Equal => {
-                return Searched::At(middle, found.value);
+            Ordering::Equal => {
+                return Ok((middle, found.value));
             }
-            Order::Greater => {
+            Ordering::Greater => {
                 high = middle;
             }
         }
     }
-    Searched::Absent(low)
+    Err(low)
 }
 
 // The number of records before a key: the position of the first at or after it.
@@ -51,8 +44,8 @@ pub fn count_below(s: &[u8], index: &[u64], count: usize, key: &[u8]) -> usize
     ensures fits { result ≤ count }
 {
     match search(s, index, count, key) {
-        Searched::At(position, _) => position,
-        Searched::Absent(position) => position,
+        Ok((position, _)) => position,
+        Err(position) => position,
     }
 }
 
@@ -63,7 +56,7 @@ pub fn count_up_to(s: &[u8], index: &[u64], count: usize, key: &[u8]) -> usize
     ensures fits { result ≤ count }
 {
     match search(s, index, count, key) {
-        Searched::At(position, _) => position + 1,
-        Searched::Absent(position) => position,
+        Ok((position, _)) => position + 1,
+        Err(position) => position,
     }
 }

@@ -1,4 +1,5 @@
 -- A screen of records that are known: which positions it has, and what is answered and written.
+use Rattle.std.specs.Prelude.{Result}
 use Prim.Native.Nat.{ℕ, ◌+◌, ◌-◌, ◌*◌, ◌/◌, ◌≤◌, ◌<◌, min}
 use mathlib.Core.Path.{◌≡◌, sym, ap, ◌∙◌}
 use mathlib.Core.Bool.{true, false}
@@ -13,8 +14,6 @@ use Rattle.bytestring.proofs.Tools.{part_taken}
 use Rattle.answer.specs.Inner.{with_second}
 use Rattle.answer.specs.declared.Refusal.{Refusal}
 use Rattle.answer.specs.declared.Refusal.TheVariants.{UnlawfulKey, NoSuchScreen}
-use Rattle.answer.specs.declared.Answer.{Answer}
-use Rattle.answer.specs.declared.AnswerOfTwo.{AnswerOfTwo}
 use Rattle.tree.specs.Record.{Record, records}
 use Rattle.tree.specs.Table.{SpeltTree}
 use Rattle.tree.specs.Judge.{due, refused, accepted, judge}
@@ -93,7 +92,7 @@ module _ (rs : List Record) (n room : ℕ) where
     unfolding written due
     written_screen = rw (lt-ltb n count exists, few_sizes on room (omega (arith, screen_few n rs)))
 
-    shown_says : {answer : Answer} {out : List ℕ} {r : AnswerOfTwo}
+    shown_says : {answer : Result ℕ Refusal} {out : List ℕ} {r : Result (ℕ × ℕ) Refusal}
         → (answer ≡ answer_of (written on room)) × (out ≡ output_of (written on room) room) → r ≡ with_second answer count
         → CountedSays (show_outcome rs n room) room r out
     unfolding show_outcome
@@ -122,7 +121,7 @@ module _ {s index : List ℕ} {count : ℕ} (a : AcceptedIndex s index count) (l
     pub show_within : low + 8 * n ≤ high
     show_within = first_within all low high n rise high_within exists
 
-    pub show_says : (size : ℕ) → size ≡ min 8 (high - (low + 8 * n)) → (room : ℕ) {answer : Answer} {out : List ℕ} {r : AnswerOfTwo}
+    pub show_says : (size : ℕ) → size ≡ min 8 (high - (low + 8 * n)) → (room : ℕ) {answer : Result ℕ Refusal} {out : List ℕ} {r : Result (ℕ × ℕ) Refusal}
         → (answer ≡ answer_of (written (records_from (low + 8 * n) (low + 8 * n + size) all) room))
         × (out ≡ output_of (written (records_from (low + 8 * n) (low + 8 * n + size) all) room) room)
         → (number : ℕ) → number ≡ screens (high - low) → r ≡ with_second answer number → CountedSays (show_outcome part n room) room r out
@@ -154,7 +153,7 @@ module _ {s index : List ℕ} {count : ℕ} (a : Accepting s index count) (c : L
   screen_shown n room =
       ap (λ (rs : List Record). show_outcome rs n room) (collection_slice a c h low high lower upper) ∙ name_passed s c n room a.given.tree a.given.judged h
 
-  pub screen_says : (n room : ℕ) {r : AnswerOfTwo} {out : List ℕ}
+  pub screen_says : (n room : ℕ) {r : Result (ℕ × ℕ) Refusal} {out : List ℕ}
       → CountedSays (show_outcome (records_from low high (accepted_records (judge s))) n room) room r out → CountedSays (screen_outcome s c n room) room r out
   screen_says n room says =
       (says.0 ∙ ap counted_answer (screen_shown n room), says.1 ∙ ap (λ (o : CountedOutcome). counted_output o room) (screen_shown n room))

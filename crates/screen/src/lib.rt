@@ -1,4 +1,4 @@
-// The drawer screen. A short register is judged with short rows, so that little is cleared.
+// The drawer screen.
 #![tactic(auto)]
 
 mod name; // the collection's name
@@ -10,21 +10,22 @@ ghost use Rattle.promises.specs.Counted.{counted_answer, counted_output};
 ghost use Rattle.collections.specs.Screen.{screen_outcome};
 
 use crate::rows::screen_with_rows;
-use answer::AnswerOfTwo;
-use limits::{FEW, MOST, SHORT};
+use answer::Refusal;
+use lending::with_rows;
 
 // Public call: the register of up to eight records of a collection, those on the screen of this number, counted from 0. It goes to the output
 // with zeros after it; its length and the number of screens are answered. On refusal the output is zero.
-pub fn screen(register: &[u8], collection: &[u8], number: u64, out: &mut [u8]) -> AnswerOfTwo
+pub fn screen(
+    register: &[u8],
+    collection: &[u8],
+    number: u64,
+    out: &mut [u8],
+) -> Result<(u32, u32), Refusal>
     ensures answer { result ≡ counted_answer (screen_outcome register.now collection.now number (length out.old)) }
     ensures output { out.new ≡ counted_output (screen_outcome register.now collection.now number (length out.old)) (length out.old) }
 {
-    if register.len() <= SHORT {
-        let mut index = [0u64; FEW];
-        let mut chains = [0u64; 2 * FEW];
-        return screen_with_rows(register, collection, number, &mut index, &mut chains, out);
-    }
-    let mut index = [0u64; MOST];
-    let mut chains = [0u64; 2 * MOST];
-    screen_with_rows(register, collection, number, &mut index, &mut chains, out)
+    with_rows(
+        register,
+        &mut |index, chains| screen_with_rows(register, collection, number, index, chains, out),
+    )
 }

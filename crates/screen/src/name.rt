@@ -7,7 +7,6 @@ ghost use Rattle.row.specs.Search.{count_below};
 ghost use Rattle.reading.specs.Positions.{accepted_records};
 ghost use Rattle.collections.specs.Screen.{is_collection_name};
 
-use answer::Answer;
 use bytestring::write_bytes;
 use key_calls::slash;
 use limits::LONGEST_KEY;
@@ -25,8 +24,8 @@ pub(crate) fn is_collection_name(name: &[u8]) -> bool
     write_bytes(&mut key, name);
     key[n] = b'/';
     match slash(&key[..n + 2]) {
-        Answer::Done(_) => true,
-        Answer::Refused(_) => false,
+        Ok(_) => true,
+        Err(_) => false,
     }
 }
 

@@ -7,8 +7,8 @@ ghost use Rattle.collections.specs.Screen.{screen_outcome};
 
 use crate::name::{count_before, is_collection_name};
 use crate::show::show;
-use answer::{AnswerOfTwo, Refusal};
-use judge::{Register, judge};
+use answer::Refusal;
+use judge::judge;
 use writer::refusal::refuse_two;
 
 // A screen of a collection.
@@ -19,16 +19,16 @@ pub fn screen_with_rows(
     index: &mut [u64],
     chains: &mut [u64],
     out: &mut [u8],
-) -> AnswerOfTwo
+) -> Result<(u32, u32), Refusal>
     requires { RoomFor register.now 1 (length index.old) × RoomFor register.now 2 (length chains.old) }
     ensures answer { result ≡ counted_answer (screen_outcome register.now collection.now number (length out.old)) }
     ensures output { out.new ≡ counted_output (screen_outcome register.now collection.now number (length out.old)) (length out.old) }
 {
     match judge(register, index, chains) {
-        Register::Accepted(count, n) => {
+        Ok((count, n)) => {
             screen_accepted(register, collection, number, index, count, chains, n, out)
         }
-        Register::Refused(refusal) => refuse_two(out, refusal),
+        Err(refusal) => refuse_two(out, refusal),
     }
 }
 
@@ -43,7 +43,7 @@ fn screen_accepted(
     chains: &[u64],
     n: usize,
     out: &mut [u8],
-) -> AnswerOfTwo
+) -> Result<(u32, u32), Refusal>
     requires { AcceptedIndex register.now index.now count × ChainRow register.now chains.now n }
     ensures answer { result ≡ counted_answer (screen_outcome register.now collection.now number (length out.old)) }
     ensures output { out.new ≡ counted_output (screen_outcome register.now collection.now number (length out.old)) (length out.old) }

@@ -8,7 +8,7 @@ ghost use Rattle.promises.specs.Counted.{counted_answer, counted_output};
 ghost use Rattle.collections.specs.Screen.{per_screen, screens};
 ghost use Rattle.screen.specs.Show.{show_outcome};
 
-use answer::{AnswerOfTwo, Refusal, with_second};
+use answer::{Refusal, with_second};
 use writer::refusal::refuse_two;
 use writing::accepted::write_range;
 
@@ -46,7 +46,7 @@ pub(crate) fn show(
     high: usize,
     number: u64,
     out: &mut [u8],
-) -> AnswerOfTwo
+) -> Result<(u32, u32), Refusal>
     requires { AcceptedIndex register.now index.now count × ChainRow register.now chains.now chain_count × (low ≤ high) × (high ≤ count) }
     ensures answer { result ≡ counted_answer (show_outcome (records_from low high (accepted_records (judge register.now))) number (length out.old)) }
     ensures output { out.new ≡ counted_output (show_outcome (records_from low high (accepted_records (judge register.now))) number (length out.old)) (length out.old) }

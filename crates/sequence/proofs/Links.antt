@@ -1,4 +1,5 @@
 -- Links noted one after the other: one more, and those after the entries of a page.
+use Rattle.std.specs.Prelude.{Result, Ok, Err}
 use Prim.Native.Nat.{ℕ, zero, suc, ◌+◌, ◌-◌, ◌≤◌, ◌<◌}
 use mathlib.Core.Path.{◌≡◌, refl, sym, ap, subst, ◌∙◌}
 use mathlib.Core.List.{List, [], ◌∷◌, ◌++◌, append_assoc, append-nil, map-append}
@@ -18,8 +19,6 @@ use Rattle.page.proofs.Readers.{andThen-inv}
 use Rattle.page_reader.specs.Place.{Reads, link_at, EntryHere, Located, LocatedIs}
 use Rattle.page_reader.specs.declared.Stop.{Stop}
 use Rattle.page_reader.specs.declared.EntryAt.{EntryAt}
-use Rattle.page_reader.specs.declared.EntryRead.{EntryRead}
-use Rattle.page_reader.specs.declared.EntryRead.TheVariants.{Entry, EntryStop}
 use Rattle.page_reader.proofs.Located.{entry_place}
 use Rattle.page_keys.proofs.Entries.{row_ends, row_behind}
 use Rattle.states.specs.Pages.{link_list, links_after}
@@ -76,7 +75,7 @@ links_begin s first n links m es past r digests w =
     record { left = es; before = digests; reads = rw sub-zero r; noted = w; same = refl }
 
 -- the digest of a located entry's link stands within s
-module _ (s : List ℕ) (at : ℕ) (got : EntryRead) (w : LocatedIs s at got) (e : EntryAt) (q : got ≡ Entry e) where
+module _ (s : List ℕ) (at : ℕ) (got : Result EntryAt Stop) (w : LocatedIs s at got) (e : EntryAt) (q : got ≡ Ok e) where
   link_found : Located s at e
   link_found = subst (LocatedIs s at) q w
 
@@ -99,7 +98,7 @@ module _ (s : List ℕ) (first n : ℕ) (links : List ℕ) (m i at : ℕ) (links
       sym (append-nil x.before) ∙ ap (λ (l : List RawEntry). x.before ++ links_after l) (sym none_left) ∙ x.same in
       subst (LinksNoted s links' m') same x.noted
 
-  module _ (h : i < n) (slice : Bytes s) (got : EntryRead) (w : LocatedIs s at got) where
+  module _ (h : i < n) (slice : Bytes s) (got : Result EntryAt Stop) (w : LocatedIs s at got) where
     entry_stands : (l : List RawEntry) (past : ℕ) → times (n - i) entry (drop at s) ≡ read l (drop past s)
         → (a : RawEntry) × Reads entry s at a (at + length (entry_bytes a))
     unfolding times
@@ -107,21 +106,21 @@ module _ (s : List ℕ) (first n : ℕ) (links : List ℕ) (m i at : ℕ) (links
         let one_less : n - i ≡ suc (n - (i + 1)) = omega arith in
         andThen-inv (entry (drop at s)) (λ a t e _. (a, entry_place s at a t slice e)) (rw one_less at r)
 
-    pub links_stop : (stop : Stop) → got ≡ EntryStop stop → EntriesNoted s first n links m links' m'
+    pub links_stop : (stop : Stop) → got ≡ Err stop → EntriesNoted s first n links m links' m'
     unfolding LinksSoFar EntriesNoted
     links_stop stop q es past r digests v =
         let x = u es past r digests v in
         let y = entry_stands x.left past x.reads in
         absurd (subst (LocatedIs s at) q w y.0 _ y.1)
 
-    pub links_go_on : (e : EntryAt) → got ≡ Entry e → (links'' : List ℕ) (m'' : ℕ) → LinkNoted links' e.link m' links'' m''
+    pub links_go_on : (e : EntryAt) → got ≡ Ok e → (links'' : List ℕ) (m'' : ℕ) → LinkNoted links' e.link m' links'' m''
         → LinksSoFar s first n links m (i + 1) e.end links'' m''
     unfolding LinksSoFar LinkNoted links_after
     links_go_on e q links'' m'' noted es past r digests v =
         let x = u es past r digests v in
         let y = entry_stands x.left past x.reads in
         let here : EntryHere s at e = (subst (LocatedIs s at) q w).here y.0 _ y.1 in
-        let z = row_behind s n i at past x.left x.reads h (Entry e) here e refl in
+        let z = row_behind s n i at past x.left x.reads h (Ok e) here e refl in
         record {
           left = z.0;
           before = x.before ++ link_list (link_at s e.link);

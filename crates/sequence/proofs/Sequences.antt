@@ -1,4 +1,5 @@
 -- A sequence read page by page, in the facts that the branches of the code leave.
+use Rattle.std.specs.Prelude.{Result, Ok, Err}
 use Prim.Native.Nat.{ℕ, zero, suc, ◌+◌, ◌≤◌, ◌<◌}
 use mathlib.Core.Path.{◌≡◌, refl, sym, ap, subst, ◌∙◌}
 use mathlib.Core.List.{List, [], ◌∷◌, ◌++◌, append_assoc, append-nil}
@@ -14,8 +15,6 @@ use Rattle.page.specs.Page.{RawPage, page}
 use Rattle.page_reader.specs.Place.{read_stop, link_at, PageHere, PageIs}
 use Rattle.page_reader.specs.declared.Stop.{Stop}
 use Rattle.page_reader.specs.declared.PageAt.{PageAt}
-use Rattle.page_reader.specs.declared.PageRead.{PageRead}
-use Rattle.page_reader.specs.declared.PageRead.TheVariants.{Page, PageStop}
 use Rattle.page_reader.proofs.Places.{then_stops}
 use Rattle.states.specs.Pages.{read_pages, sequence, link_list, links_after}
 use Rattle.sequence.specs.Noted.{links_by_place, links_of_all, PagesFrom, SequenceNoted}
@@ -60,7 +59,7 @@ sequence_next (b ∷ s) h =
     (λ p t e. let fewer = page_takes (b ∷ s) p t e in ap (page_before p) (most_enough (length s) (length t) t (omega arith) (omega arith)))
 
 -- ---- a page that was read, where it stands
-module _ (s : List ℕ) (at : ℕ) (got : PageRead) (w : PageIs s at got) (p : PageAt) (q : got ≡ Page p) where
+module _ (s : List ℕ) (at : ℕ) (got : Result PageAt Stop) (w : PageIs s at got) (p : PageAt) (q : got ≡ Ok p) where
   page_stands : PageHere s at p
   page_stands = subst (PageIs s at) q w
 
@@ -118,14 +117,14 @@ module _ (s links pages : List ℕ) (n m at : ℕ) (u : SequenceSoFar s links pa
         places = λ room. subst (PagesFrom s pages 0 0) (append-nil u.raws) (u.places room pages (λ i l. refl) [] (omega arith));
       }
 
-  module _ (h : at < length s) (got : PageRead) (w : PageIs s at got) where
+  module _ (h : at < length s) (got : Result PageAt Stop) (w : PageIs s at got) where
     page_comes : sequence (drop at s) ≡ and_then (page (drop at s)) (λ p t. and_then (sequence t) (λ ps v. read (p ∷ ps) v))
     page_comes = sequence_next (drop at s) (omega (arith, length-drop at s))
 
-    pub sequence_stops : (stop : Stop) → got ≡ PageStop stop → sequence s ≡ read_stop stop
+    pub sequence_stops : (stop : Stop) → got ≡ Err stop → sequence s ≡ read_stop stop
     sequence_stops stop q = u.stops stop (page_comes ∙ then_stops _ stop (subst (PageIs s at) q w))
 
-    module _ (p : PageAt) (q : got ≡ Page p) where
+    module _ (p : PageAt) (q : got ≡ Ok p) where
       here : PageHere s at p
       here = page_stands s at got w p q
 

@@ -1,12 +1,11 @@
 -- A sequence of pages that was read: where its pages stand, and where the digests of their links.
-use Rattle.std.specs.Prelude.{ℕ, suc, ◌+◌, ◌≤◌, ◌<◌, ◌≡◌, List, [], ◌∷◌, ◌++◌, map, length, take, get_or}
+use Rattle.page_reader.specs.declared.Stop.{Stop}
+use Rattle.std.specs.Prelude.{ℕ, suc, ◌+◌, ◌≤◌, ◌<◌, ◌≡◌, List, [], ◌∷◌, ◌++◌, map, length, take, get_or, Result, Ok, Err}
 use Rattle.value.specs.Value.{digest_length, digest_in}
 use Rattle.page.specs.Reading.{read}
 use Rattle.page.specs.Page.{RawPage, page}
 use Rattle.page_reader.specs.Place.{Reads, read_stop}
 use Rattle.states.specs.Pages.{sequence, link_list, links_after}
-use Rattle.sequence.specs.declared.SequenceRead.{SequenceRead}
-use Rattle.sequence.specs.declared.SequenceRead.TheVariants.{Whole, Stopped}
 
 -- The digests of a page's links in the order of their places: those after entries, then that of the left link, which ends the page.
 unfoldable pub links_by_place : RawPage → List (List ℕ)
@@ -31,6 +30,6 @@ pub record SequenceNoted (s links pages : List ℕ) (n m : ℕ) : Type 0 where
   pub within : m ≤ length links → (i : ℕ) → i < m → get_or links i 0 + digest_length ≤ length s
   pub places : n ≤ length pages → PagesFrom s pages 0 0 raws
 
-abbrev pub SequenceSays : List ℕ → SequenceRead → List ℕ → List ℕ → Type 0
-SequenceSays s (Whole n m) links pages = SequenceNoted s links pages n m
-SequenceSays s (Stopped stop) links pages = sequence s ≡ read_stop stop
+abbrev pub SequenceSays : List ℕ → Result (ℕ × ℕ) Stop → List ℕ → List ℕ → Type 0
+SequenceSays s (Ok (n, m)) links pages = SequenceNoted s links pages n m
+SequenceSays s (Err stop) links pages = sequence s ≡ read_stop stop

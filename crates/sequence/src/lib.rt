@@ -5,14 +5,7 @@ ghost use Rattle.std.specs.Prelude.{◌≡◌, ◌+◌, ◌^◌, ◌≤◌, ◌<
 ghost use Rattle.sequence.specs.Noted.{SequenceSays};
 ghost use Rattle.sequence.specs.Inner.{LinkNoted, EntriesNoted};
 
-use page_reader::{EntryRead, PageRead, Stop, locate_entry, read_page};
-
-// How many pages a sequence has and how many links, or why reading stopped.
-#[derive(Clone, Copy)]
-pub enum SequenceRead {
-    Whole(usize, usize),
-    Stopped(Stop),
-}
+use page_reader::{Stop, locate_entry, read_page};
 
 // Notes a place as the k-th word, where there is room.
 fn note_place(words: &mut [u32], k: usize, at: usize)
@@ -48,12 +41,12 @@ fn note_links_after(s: &[u8], first: usize, n: usize, links: &mut [u32], count: 
     let mut i = 0;
     while i < n {
         match locate_entry(s, at) {
-            EntryRead::Entry(e) => {
+            Ok(e) => {
                 let link = e.link;
                 total = note_link(links, link, total);
                 at = e.end;
             }
-            EntryRead::EntryStop(_) => {
+            Err(_) => {
                 return total;
             }
         }
@@ -63,7 +56,7 @@ fn note_links_after(s: &[u8], first: usize, n: usize, links: &mut [u32], count: 
 }
 
 // Page after page until no bytes are left. The places of the pages and of their links' digests are noted as far as there is room.
-pub fn note_sequence(s: &[u8], links: &mut [u32], pages: &mut [u32]) -> SequenceRead
+pub fn note_sequence(s: &[u8], links: &mut [u32], pages: &mut [u32]) -> Result<(usize, usize), Stop>
     requires { length s.now < 2 ^ 24 }
     ensures { SequenceSays s.now result links.new pages.new }
 {
@@ -72,7 +65,7 @@ pub fn note_sequence(s: &[u8], links: &mut [u32], pages: &mut [u32]) -> Sequence
     let mut at = 0;
     while at < s.len() {
         match read_page(s, at) {
-            PageRead::Page(p) => {
+            Ok(p) => {
                 let n = p.count;
                 let first = p.first;
                 let left = p.left;
@@ -82,10 +75,10 @@ pub fn note_sequence(s: &[u8], links: &mut [u32], pages: &mut [u32]) -> Sequence
                 number += 1;
                 at = p.end;
             }
-            PageRead::PageStop(stop) => {
-                return SequenceRead::Stopped(stop);
+            Err(stop) => {
+                return Err(stop);
             }
         }
     }
-    SequenceRead::Whole(number, count)
+    Ok((number, count))
 }

@@ -4,7 +4,7 @@ use mathlib.Core.List.{List, ◌++◌}
 use Prim.Native.Nat.{ℕ, zero, suc, ◌+◌, ◌-◌, ◌*◌, ◌/◌, ◌≤◌}
 use native.Mathlib.Numerals.{add-one}
 use native.Mathlib.Omega.{arith}
-use native.Mathlib.Nat.{add-zero, add-suc}
+use native.Mathlib.Nat.{add-zero, add-suc, mul-zero, mul-suc, mul_assoc}
 use lib.ListN.{length, take, drop, length-drop, take-append-drop}
 use lib.Seq.{length-take-le, take-append-le, drop-append-le, drop-append-add, take_all}
 use Rattle.fips180.specs.Hash.{after_blocks, compress}
@@ -13,9 +13,6 @@ use Rattle.fips180.specs.declared.State.{State}
 -- the part k of n bytes, as the code takes it
 part : (m : List ℕ) (n k : ℕ) → take (n * k + n - n * k) (drop (n * k) m) ≡ take n (drop (n * k) m)
 part m n k = let e : n * k + n - n * k ≡ n = omega arith in rw e
-
-pub part_length : (m : List ℕ) (n k : ℕ) → n * k + n ≤ length m → length (take (n * k + n - n * k) (drop (n * k) m)) ≡ n
-part_length m n k h = ap length (part m n k) ∙ length-take-le n (drop (n * k) m) (omega (arith, length-drop (n * k) m))
 
 -- the blocks of the front
 pub front : (n : ℕ) (s : State) (a b : List ℕ) → 64 * n ≤ length a → after_blocks n s (a ++ b) ≡ after_blocks n s a
@@ -41,36 +38,36 @@ more m s q j h =
     ap (λ (l : List ℕ). after_blocks j (after_blocks q s l) (drop (64 * q) m)) (sym e)
     ∙ sym (back j q s (take (64 * q) m) (drop (64 * q) m) (length-take-le (64 * q) m h)) ∙ ap (after_blocks (q + j) s) e
 
--- one more block
-pub turn : (m : List ℕ) (k : ℕ) (s x y : State) → x ≡ after_blocks k s m → y ≡ compress x (take (64 * k + 64 - 64 * k) (drop (64 * k) m)) → y ≡ after_blocks (k + 1) s m
+-- no group
+pub none : (m : List ℕ) (lanes k : ℕ) (s : State) → k ≡ 0 → s ≡ after_blocks (lanes * k) s m
 unfolding after_blocks
-turn m k s x y e f = rw add-one (f ∙ ap₂ compress e (part m 64 k))
+none m lanes k s e = rw (e, mul-zero) refl
 
-pub no_fours : (m : List ℕ) (k : ℕ) (s : State) → k ≡ 0 → s ≡ after_blocks (4 * k) s m
-unfolding after_blocks
-no_fours m k s e = rw e refl
+-- a group of blocks more
+pub turn : (m : List ℕ) (lanes k : ℕ) (s x y : State) → 64 * lanes * k + 64 * lanes ≤ length m → x ≡ after_blocks (lanes * k) s m
+    → y ≡ after_blocks lanes x (take (64 * lanes * k + 64 * lanes - 64 * lanes * k) (drop (64 * lanes * k) m)) → y ≡ after_blocks (lanes * (k + 1)) s m
+turn m lanes k s x y h e f =
+    let size : ℕ = 64 * lanes in
+    let at : size * k ≡ 64 * (lanes * k) = mul_assoc 64 lanes k in
+    let all : lanes * k + lanes ≡ lanes * (k + 1) = sym (rw add-one (mul-suc lanes k)) in
+    let rest : List ℕ = drop (size * k) m in
+    let l : length (take size rest) ≡ size = length-take-le size rest (omega (arith, length-drop (size * k) m)) in
+    f ∙ ap₂ (after_blocks lanes) e (part m size k)
+    ∙ sym (front lanes (after_blocks (lanes * k) s m) (take size rest) (drop size rest) (omega arith))
+    ∙ ap (after_blocks lanes (after_blocks (lanes * k) s m)) (take-append-drop size rest ∙ ap (λ (n : ℕ). drop n m) at)
+    ∙ more m s (lanes * k) lanes (omega arith) ∙ ap (λ (n : ℕ). after_blocks n s m) all
 
--- four more blocks
-pub turn_four : (m : List ℕ) (k : ℕ) (s x y : State) → 256 * k + 256 ≤ length m → x ≡ after_blocks (4 * k) s m
-    → y ≡ after_blocks 4 x (take (256 * k + 256 - 256 * k) (drop (256 * k) m)) → y ≡ after_blocks (4 * (k + 1)) s m
-turn_four m k s x y h e f =
-    let at : 256 * k ≡ 64 * (4 * k) = omega arith in
-    let all : 4 * k + 4 ≡ 4 * (k + 1) = omega arith in
-    let rest : List ℕ = drop (256 * k) m in
-    let l : length (take 256 rest) ≡ 256 = length-take-le 256 rest (omega (arith, length-drop (256 * k) m)) in
-    f ∙ ap₂ (after_blocks 4) e (part m 256 k)
-    ∙ sym (front 4 (after_blocks (4 * k) s m) (take 256 rest) (drop 256 rest) (omega arith))
-    ∙ ap (after_blocks 4 (after_blocks (4 * k) s m)) (take-append-drop 256 rest ∙ ap (λ (n : ℕ). drop n m) at)
-    ∙ more m s (4 * k) 4 (omega arith) ∙ ap (λ (n : ℕ). after_blocks n s m) all
+pub one_by_one : (n : ℕ) (s : State) (m : List ℕ) → after_blocks (1 * n) s m ≡ after_blocks n s m
+one_by_one n s m = let e : 1 * n ≡ n = omega arith in rw e refl
 
 -- the blocks after f fours, as the code takes them
 pub after_fours : (m : List ℕ) (f : ℕ) (s z x y : State) → f ≡ length m / 256 → z ≡ s → x ≡ after_blocks (4 * f) z m
-    → (let rest : List ℕ = take (length m - 256 * f) (drop (256 * f) m) in y ≡ after_blocks (length rest / 64) x rest → y ≡ after_blocks (length m / 64) s m)
+    → (let rest : List ℕ = take (length m - 256 * f) (drop (256 * f) m) in y ≡ after_blocks (1 * (length rest / 64)) x rest → y ≡ after_blocks (length m / 64) s m)
 after_fours m f s z x y h i e g =
     let at : 256 * f ≡ 64 * (4 * f) = omega arith in
     let rest : take (length m - 256 * f) (drop (256 * f) m) ≡ drop (256 * f) m = take_all (length m - 256 * f) (drop (256 * f) m) (omega (arith, length-drop (256 * f) m)) in
     let j : ℕ = length (drop (256 * f) m) / 64 in
     let all : 4 * f + j ≡ length m / 64 = omega (arith, length-drop (256 * f) m) in
-    g ∙ ap₂ (λ (z : State) (l : List ℕ). after_blocks (length l / 64) z l) (e ∙ ap (λ (z : State). after_blocks (4 * f) z m) i) rest
+    g ∙ one_by_one _ _ _ ∙ ap₂ (λ (z : State) (l : List ℕ). after_blocks (length l / 64) z l) (e ∙ ap (λ (z : State). after_blocks (4 * f) z m) i) rest
     ∙ ap (λ (n : ℕ). after_blocks j (after_blocks (4 * f) s m) (drop n m)) at
     ∙ more m s (4 * f) j (omega arith) ∙ ap (λ (n : ℕ). after_blocks n s m) all

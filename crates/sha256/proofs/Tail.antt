@@ -1,28 +1,19 @@
 -- The last blocks, as the code fills them in.
 use mathlib.Core.Path.{◌≡◌, refl, sym, ap, ap₂, ◌∙◌}
 use mathlib.Core.List.{List, [], ◌∷◌, ◌++◌, append_assoc}
-use Prim.Native.Nat.{ℕ, zero, suc, ◌+◌, ◌-◌, ◌*◌, ◌/◌, ◌%◌, ◌^◌, ◌≤◌}
+use Prim.Native.Nat.{ℕ, zero, suc, ◌+◌, ◌-◌, ◌*◌, ◌≤◌}
 use native.Mathlib.Nat.{zero-add, le_of_suc-le-suc, not-suc-le-zero}
 use native.Mathlib.Omega.{arith}
 use lib.ListN.{length, take, drop, length-append}
-use mir.Syntax.{w8}
-use mir.Val.{Fits}
-use lib.Seq.{paste, length-take-le, take-length, take-append_seam, drop-append-add, take-append-add}
+use lib.Seq.{paste, take-length, take-append_seam, drop-append-add, take-append-add}
 use Rattle.bytestring.proofs.Tools.{drop_zeros}
-use Rattle.bytestring.specs.Bytes.{zeros, front}
-use Rattle.bytestring.proofs.Lending.{lent, back, onto_place}
+use Rattle.bytestring.specs.Bytes.{zeros}
 use Rattle.fips180.specs.Hash.{ending, bytes64}
 
 take_zeros : (k n : ℕ) → k ≤ n → take k (zeros n) ≡ zeros k
 take_zeros zero n h = refl
 take_zeros (suc k) zero h = absurd (not-suc-le-zero h)
 take_zeros (suc k) (suc n) h = ap (λ (l : List ℕ). 0 ∷ l) (take_zeros k n (le_of_suc-le-suc h))
-
--- bytes written at the front of the part that is lent from a place on
-pub pasted : (t src ys : List ℕ) (at : ℕ) → at + length src ≤ length t → ys ≡ front src (lent at t) → back at t ys ≡ paste t at src (length src)
-pasted t src ys at h f =
-    let a : at ≤ length t = omega arith in
-    onto_place t src ys at a f ∙ rw (length-append (take at t) src, length-take-le at t a, take-length src)
 
 -- the bytes of a that are left, then a byte, then zeros
 module _ (rest : List ℕ) where
@@ -67,37 +58,3 @@ filled rest t1 t2 t3 bits n j h2 h e1 e2 e e3 =
     ∙ third rest bits k (omega arith) (ap length e)
     ∙ ap₂ (λ (b : List ℕ) (i : ℕ). marked rest ++ zeros k ++ b ++ zeros i) e f
     ∙ simp append_assoc
-
--- what is left of a division by 256 is a byte
-pub fits_byte : (x : ℕ) → Fits w8 (x % 256)
-fits_byte x = record { fits = omega arith }
-
--- eight times n, byte by byte, by shifts of n
-module _ (n : ℕ) where
-  shift_53 : n / 2 ^ 53 % 256 ≡ 8 * n / 2 ^ 32 / 2 ^ 24 % 256
-  shift_53 = omega arith
-
-  shift_45 : n / 2 ^ 45 % 256 ≡ 8 * n / 2 ^ 32 / 2 ^ 16 % 256
-  shift_45 = omega arith
-
-  shift_37 : n / 2 ^ 37 % 256 ≡ 8 * n / 2 ^ 32 / 2 ^ 8 % 256
-  shift_37 = omega arith
-
-  shift_29 : n / 2 ^ 29 % 256 ≡ 8 * n / 2 ^ 32 % 256
-  shift_29 = omega arith
-
-  shift_21 : n / 2 ^ 21 % 256 ≡ 8 * n / 2 ^ 24 % 256
-  shift_21 = omega arith
-
-  shift_13 : n / 2 ^ 13 % 256 ≡ 8 * n / 2 ^ 16 % 256
-  shift_13 = omega arith
-
-  shift_5 : n / 2 ^ 5 % 256 ≡ 8 * n / 2 ^ 8 % 256
-  shift_5 = omega arith
-
-  lowest : (n * 2 ^ 3) % 2 ^ 64 % 256 ≡ 8 * n % 256
-  lowest = omega arith
-
-  pub length_in_bits : n / 2 ^ 53 % 256 ∷ n / 2 ^ 45 % 256 ∷ n / 2 ^ 37 % 256 ∷ n / 2 ^ 29 % 256 ∷ n / 2 ^ 21 % 256 ∷ n / 2 ^ 13 % 256 ∷ n / 2 ^ 5 % 256 ∷ (n * 2 ^ 3) % 2 ^ 64 % 256 ∷ []
-      ≡ bytes64 (8 * n)
-  length_in_bits = rw (shift_53, shift_45, shift_37, shift_29, shift_21, shift_13, shift_5, lowest)

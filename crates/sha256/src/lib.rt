@@ -7,24 +7,26 @@ ghost use Rattle.std.specs.Prelude.{◌≡◌};
 ghost use Rattle.fips180.specs.Hash.{hash, words, sha256};
 ghost use Rattle.sha256.specs.Digest.{digest_answer, digest_output};
 
-use answer::{Answer, Refusal};
+use answer::Refusal;
 use limits::LONGEST;
 
 // Public call: the digest of the input, written to out; for an input that is too long, number 1 and zeros.
-pub fn digest(input: &[u8], out: &mut [u8; 32]) -> Answer
+#[tactic(auto, unfolding(crate::specs::Digest::digest_answer, crate::specs::Digest::digest_output))]
+pub fn digest(input: &[u8], out: &mut [u8; 32]) -> Result<u32, Refusal>
     ensures answer { result ≡ digest_answer input.now }
     ensures output { out.new ≡ digest_output input.now }
 {
     if input.len() <= LONGEST {
         *out = digest_of(input);
-        Answer::Done(0)
+        Ok(0)
     } else {
         *out = [0u8; 32];
-        Answer::Refused(Refusal::TooLong)
+        Err(Refusal::TooLong)
     }
 }
 
 // For the crates above, no public call: the digest of any input.
+#[tactic(auto, unfolding(fips180::specs::Hash::sha256))]
 pub fn digest_of(input: &[u8]) -> [u8; 32]
     ensures { result ≡ sha256 input.now }
 {

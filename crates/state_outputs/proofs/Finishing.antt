@@ -1,4 +1,7 @@
 -- What save and forget come to, by what was written into their outputs.
+use Rattle.keeping.specs.declared.Unkept.{Unkept}
+use Rattle.keeping.specs.declared.Unkept.TheVariants.{Short, Shared}
+use Rattle.std.specs.Prelude.{Result, Ok, Err}
 use Prim.Native.Nat.{ℕ, ◌+◌, ◌-◌, ◌≤◌, ◌<◌}
 use mathlib.Core.Path.{◌≡◌, refl, sym, ap, subst, ◌∙◌}
 use mathlib.Core.Bool.{Bool, true, false, ◌&&◌}
@@ -12,66 +15,60 @@ use lib.Seq.{take_at}
 use Rattle.limits.specs.Limits.{longest}
 use Rattle.answer.specs.declared.Refusal.{Refusal}
 use Rattle.answer.specs.declared.Refusal.TheVariants.{NoRoom, WrongStates}
-use Rattle.answer.specs.declared.Answer.{Answer}
-use Rattle.answer.specs.declared.Answer.TheVariants.{Done, Refused}
-use Rattle.answer.specs.declared.AnswerOfTwo.{AnswerOfTwo}
-use Rattle.answer.specs.declared.AnswerOfTwo.TheVariants.{Both}
 use Rattle.promises.specs.Outcome.{Outcome, stopped, wrote, answer_of, output_of}
 use Rattle.states.specs.Pages.{all_apart}
 use Rattle.states.specs.States.{Saved, unsaved, saved, saved_answer, states_output, pages_output}
 use Rattle.keeping.specs.Kept.{sequence_of}
-use Rattle.keeping.specs.declared.KeptLength.{KeptLength}
-use Rattle.keeping.specs.declared.KeptLength.TheVariants.{Length, NoRoom as Short, Shared}
 use Rattle.state_outputs.specs.Outputs.{with_sequence, with_pages, BothWritten, SavedAs}
 
 -- ---- the state register's outcome by its answer
-pub refused_outcome : (o : Outcome) {answer : Answer} {r : Refusal} → answer ≡ answer_of o → answer ≡ Refused r → o ≡ stopped r
+pub refused_outcome : (o : Outcome) {answer : Result ℕ Refusal} {r : Refusal} → answer ≡ answer_of o → answer ≡ Err r → o ≡ stopped r
 unfolding answer_of
 refused_outcome (stopped q) e h = cc
 refused_outcome (wrote t) e h = let z : ◌≡◌ {A = ℕ} 0 1 = cc in absurd (omega arith)
 
-pub done_outcome : (o : Outcome) {answer : Answer} {n : ℕ} → answer ≡ answer_of o → answer ≡ Done n → (t : List ℕ) × (o ≡ wrote t) × (n ≡ length t)
+pub done_outcome : (o : Outcome) {answer : Result ℕ Refusal} {n : ℕ} → answer ≡ answer_of o → answer ≡ Ok n → (t : List ℕ) × (o ≡ wrote t) × (n ≡ length t)
 unfolding answer_of
 done_outcome (stopped q) e h = let z : ◌≡◌ {A = ℕ} 0 1 = cc in absurd (omega arith)
 done_outcome (wrote t) e h = (t, refl, cc)
 
 -- ---- an outcome by another name
-pub saved_as : {o p : Saved} {states pages : ℕ} {answer : AnswerOfTwo} {register sequence : List ℕ} → o ≡ p → SavedAs o states pages answer register sequence
+pub saved_as : {o p : Saved} {states pages : ℕ} {answer : Result (ℕ × ℕ) Refusal} {register sequence : List ℕ} → o ≡ p → SavedAs o states pages answer register sequence
     → SavedAs p states pages answer register sequence
 saved_as e s = rw (← e) s
 
-module _ {answer : Answer} {states pages : List ℕ} {o : Outcome} {ps : List (List ℕ)} where
-  pub kept_as : {kept other : KeptLength} → kept ≡ other → BothWritten answer kept states pages o ps → BothWritten answer other states pages o ps
-  kept_as e b = subst (λ (k : KeptLength). BothWritten answer k states pages o ps) e b
+module _ {answer : Result ℕ Refusal} {states pages : List ℕ} {o : Outcome} {ps : List (List ℕ)} where
+  pub kept_as : {kept other : Result ℕ Unkept} → kept ≡ other → BothWritten answer kept states pages o ps → BothWritten answer other states pages o ps
+  kept_as e b = subst (λ (k : Result ℕ Unkept). BothWritten answer k states pages o ps) e b
 
-  pub shared_refused : BothWritten answer Shared states pages o ps → (room : ℕ) → unsaved WrongStates ≡ with_pages o ps room
+  pub shared_refused : BothWritten answer (Err Shared) states pages o ps → (room : ℕ) → unsaved WrongStates ≡ with_pages o ps room
   unfolding with_pages
   shared_refused b room = rw b.sequence.0
 
   -- ---- the sequence is too long for its output
-  module _ (b : BothWritten answer Short states pages o ps) where
-    pub short_refused : {r : Refusal} → answer ≡ Refused r → unsaved r ≡ with_pages o ps (length pages)
+  module _ (b : BothWritten answer (Err Short) states pages o ps) where
+    pub short_refused : {r : Refusal} → answer ≡ Err r → unsaved r ≡ with_pages o ps (length pages)
     unfolding with_pages with_sequence
     short_refused h = rw (b.sequence.0, refused_outcome o b.answered h)
 
-    pub short_done : {n : ℕ} → answer ≡ Done n → unsaved NoRoom ≡ with_pages o ps (length pages)
+    pub short_done : {n : ℕ} → answer ≡ Ok n → unsaved NoRoom ≡ with_pages o ps (length pages)
     unfolding with_pages with_sequence
     short_done h =
         let w = done_outcome o b.answered h in
         rw (b.sequence.0, w.1, lt-leb (length (sequence_of ps)) (length pages) (omega (arith, b.sequence.1, b.room)))
 
   -- ---- it has this length
-  pub length_fits : {size : ℕ} → BothWritten answer (Length size) states pages o ps → size ≤ length pages
+  pub length_fits : {size : ℕ} → BothWritten answer (Ok size) states pages o ps → size ≤ length pages
   length_fits b =
       let e : length pages ≡ length (sequence_of ps) + length (drop (length (sequence_of ps)) b.old) = ap length b.sequence.2 ∙ length-append (sequence_of ps) _ in
       omega (arith, b.sequence.1)
 
-  module _ {size : ℕ} (b : BothWritten answer (Length size) states pages o ps) where
-    pub length_refused : {r : Refusal} → answer ≡ Refused r → unsaved r ≡ with_pages o ps (length pages)
+  module _ {size : ℕ} (b : BothWritten answer (Ok size) states pages o ps) where
+    pub length_refused : {r : Refusal} → answer ≡ Err r → unsaved r ≡ with_pages o ps (length pages)
     unfolding with_pages with_sequence
     length_refused h = rw (b.sequence.0, refused_outcome o b.answered h)
 
-    module _ {n : ℕ} (h : answer ≡ Done n) where
+    module _ {n : ℕ} (h : answer ≡ Ok n) where
       pub length_long : longest < size → unsaved NoRoom ≡ with_pages o ps (length pages)
       unfolding with_pages with_sequence
       length_long l =
@@ -84,7 +81,7 @@ module _ {answer : Answer} {states pages : List ℕ} {o : Outcome} {ps : List (L
 
       done_with_lem : size ≤ longest → size ≤ length pages → (pages' : List ℕ) → pages' ≡ take size pages ++ zeros (length pages - size)
           → (t : List ℕ) → o ≡ wrote t → n ≡ length t
-          → SavedAs (with_pages o ps (length pages)) (length states) (length pages) (Both n size) states pages'
+          → SavedAs (with_pages o ps (length pages)) (length states) (length pages) (Ok (n, size)) states pages'
       unfolding with_pages with_sequence saved_answer states_output pages_output output_of
       done_with_lem l fits pages' e t w m =
           let s : size ≡ length (sequence_of ps) = b.sequence.1 in
@@ -95,5 +92,5 @@ module _ {answer : Answer} {states pages : List ℕ} {o : Outcome} {ps : List (L
           saved_as (sym whole) (record { answered = rw (m, s); register' = register; sequence' = e ∙ rw (at, s) })
 
       pub length_done : size ≤ longest → size ≤ length pages → (pages' : List ℕ) → pages' ≡ take size pages ++ zeros (length pages - size)
-          → SavedAs (with_pages o ps (length pages)) (length states) (length pages) (Both n size) states pages'
+          → SavedAs (with_pages o ps (length pages)) (length states) (length pages) (Ok (n, size)) states pages'
       length_done l fits pages' e = let w = done_outcome o b.answered h in done_with_lem l fits pages' e w.0 w.1 w.2

@@ -1,14 +1,13 @@
 -- What the contracts inside this crate cite, and no public contract does.
-use Rattle.std.specs.Prelude.{ℕ, ◌≤◌, ◌≡◌, true, cond, List, length}
+use Rattle.keeping.specs.declared.Unkept.{Unkept}
+use Rattle.answer.specs.declared.Refusal.{Refusal}
+use Rattle.std.specs.Prelude.{ℕ, ◌≤◌, ◌≡◌, true, cond, List, length, Result}
 use Rattle.answer.specs.declared.Refusal.TheVariants.{NoRoom, WrongStates}
-use Rattle.answer.specs.declared.Answer.{Answer}
-use Rattle.answer.specs.declared.AnswerOfTwo.{AnswerOfTwo}
 use Rattle.key.specs.Key.{lawful}
 use Rattle.promises.specs.Outcome.{Outcome, stopped, wrote, answer_of, output_of}
 use Rattle.states.specs.Pages.{all_apart}
 use Rattle.states.specs.States.{state_key, Saved, unsaved, saved, has_room, saved_answer, states_output, pages_output}
 use Rattle.keeping.specs.Kept.{sequence_of, SequenceWritten}
-use Rattle.keeping.specs.declared.KeptLength.{KeptLength}
 
 -- The key of a state by its name; where it would be longer than any lawful key, some other unlawful string.
 pub record KeyOf (name k : List ℕ) : Type 0 where
@@ -24,7 +23,7 @@ unfoldable pub with_pages : Outcome → List (List ℕ) → ℕ → Saved
 with_pages o ps room = cond (all_apart ps) (with_sequence o (sequence_of ps) room) (unsaved WrongStates)
 
 -- Both outputs were written, or refused.
-pub record BothWritten (answer : Answer) (kept : KeptLength) (states pages : List ℕ) (o : Outcome) (ps : List (List ℕ)) : Type 0 where
+pub record BothWritten (answer : Result ℕ Refusal) (kept : Result ℕ Unkept) (states pages : List ℕ) (o : Outcome) (ps : List (List ℕ)) : Type 0 where
   pub answered : answer ≡ answer_of o
   pub register : states ≡ output_of o (length states)
   pub old : List ℕ
@@ -32,7 +31,7 @@ pub record BothWritten (answer : Answer) (kept : KeptLength) (states pages : Lis
   pub sequence : SequenceWritten ps old kept pages
 
 -- The answer and both outputs are those of an outcome.
-pub record SavedAs (o : Saved) (states pages : ℕ) (answer : AnswerOfTwo) (register sequence : List ℕ) : Type 0 where
+pub record SavedAs (o : Saved) (states pages : ℕ) (answer : Result (ℕ × ℕ) Refusal) (register sequence : List ℕ) : Type 0 where
   pub answered : answer ≡ saved_answer o
   pub register' : register ≡ states_output o states
   pub sequence' : sequence ≡ pages_output o pages

@@ -1,7 +1,8 @@
 -- Saves and forgets on the buffers of a map that fits: each answers as on the map, and they keep the buffers those of the map.
+use Rattle.answer.specs.declared.Refusal.{Refusal}
+use Rattle.std.specs.Prelude.{ℕ, Result}
 use mathlib.Core.Path.{◌≡◌, refl, ap, ap₂}
 use mathlib.Core.List.{List, [], ◌∷◌}
-use Rattle.answer.specs.declared.AnswerOfTwo.{AnswerOfTwo}
 use Rattle.tree.specs.Record.{Record}
 use Rattle.tree.specs.Judge.{judge}
 use Rattle.states.specs.States.{Buffers, buffers_of, Saved, unsaved, saved, save_plan, forget_plan, on_states, save_outcome, forget_outcome, saved_answer, StateCall, save_call, forget_call, plan_of_call, states_room, pages_room, saved_on_map, next_map, answers_on_map, map_after, saved_on_buffers, next_buffers, answers_on_buffers, buffers_after}
@@ -51,7 +52,7 @@ calls_fit [] m f = (refl, refl, f)
 calls_fit (c ∷ calls) m f =
     let s = call_fits c m f in
     let later = calls_fit calls (after_call c m) s.1 in (
-      ap₂ (λ (a : AnswerOfTwo) (l : List AnswerOfTwo). a ∷ l) (ap saved_answer (same_outcome c m f)) (rw s.0 later.0),
+      ap₂ (λ (a : Result (ℕ × ℕ) Refusal) (l : List (Result (ℕ × ℕ) Refusal)). a ∷ l) (ap saved_answer (same_outcome c m f)) (rw s.0 later.0),
       rw s.0 later.1,
       later.2,
     )

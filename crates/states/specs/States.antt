@@ -1,10 +1,8 @@
 -- Named states: the map of states, the two buffers that hold it, and what save, restore and forget answer and write.
-use Rattle.std.specs.Prelude.{ℕ, ◌-◌, Bool, true, false, cond, ◌&&◌, List, [], ◌∷◌, ◌++◌, map, length, leb, eqb}
+use Rattle.std.specs.Prelude.{ℕ, ◌-◌, Bool, true, false, cond, ◌&&◌, List, [], ◌∷◌, ◌++◌, map, length, leb, eqb, Result, Ok, Err}
 use Rattle.std.proofs.Math.Option.{Option, none, some}
 use Rattle.answer.specs.declared.Refusal.{Refusal}
 use Rattle.answer.specs.declared.Refusal.TheVariants.{TooLong, EndsEarly, Departs, TooManyRecords, UnlawfulKey, KeyAbsent, NoRoom, WrongStates}
-use Rattle.answer.specs.declared.AnswerOfTwo.{AnswerOfTwo}
-use Rattle.answer.specs.declared.AnswerOfTwo.TheVariants.{Both, Refused as BothRefused}
 use Rattle.bytestring.specs.Bytes.{ByteString, equal, zeros}
 use Rattle.limits.specs.Limits.{longest, most, deepest}
 use Rattle.value.specs.Value.{dag_cbor, value_codec, value_digest}
@@ -121,7 +119,7 @@ unfoldable pub judge_states : Buffers → StatesVerdict
 judge_states b = judge_with_pages (judge b.states) b.pages
 
 -- ---- save and forget
--- Both are refused, or write both buffers anew.
+-- Ok (are, refused), or write both buffers anew.
 pub data Saved : Type 0 where
   unsaved : Refusal → Saved
   saved : Buffers → Saved
@@ -177,9 +175,9 @@ unfoldable pub forget_outcome : Buffers → List ℕ → ℕ → ℕ → Saved
 forget_outcome b name states pages = on_states (judge_states b) (forget_plan name) states pages
 
 -- The two lengths are answered; a refusal answers its number alone.
-unfoldable pub saved_answer : Saved → AnswerOfTwo
-saved_answer (unsaved r) = BothRefused r
-saved_answer (saved b) = Both (length b.states) (length b.pages)
+unfoldable pub saved_answer : Saved → Result (ℕ × ℕ) Refusal
+saved_answer (unsaved r) = Err r
+saved_answer (saved b) = Ok (length b.states, length b.pages)
 
 -- After what is written the outputs are zero; on refusal both are wholly zero.
 unfoldable pub states_output : Saved → ℕ → List ℕ
@@ -236,7 +234,7 @@ unfoldable pub next_map : Saved → List Record → List Record → List Record
 next_map (unsaved r) old new = old
 next_map (saved b) old new = new
 
-unfoldable pub answers_on_map : List StateCall → List Record → List AnswerOfTwo
+unfoldable pub answers_on_map : List StateCall → List Record → List (Result (ℕ × ℕ) Refusal)
 answers_on_map [] m = []
 answers_on_map (c ∷ cs) m = saved_answer (saved_on_map c m) ∷ answers_on_map cs (next_map (saved_on_map c m) m (plan_of_call c m).result)
 
@@ -253,7 +251,7 @@ unfoldable pub next_buffers : Saved → Buffers → Buffers
 next_buffers (unsaved r) b = b
 next_buffers (saved c) b = c
 
-unfoldable pub answers_on_buffers : List StateCall → Buffers → List AnswerOfTwo
+unfoldable pub answers_on_buffers : List StateCall → Buffers → List (Result (ℕ × ℕ) Refusal)
 answers_on_buffers [] b = []
 answers_on_buffers (c ∷ cs) b = saved_answer (saved_on_buffers c b) ∷ answers_on_buffers cs (next_buffers (saved_on_buffers c b) b)
 

@@ -1,4 +1,5 @@
 -- The keys of states, and the position of one.
+use Rattle.std.specs.Prelude.{Result, Ok, Err}
 use Prim.Native.Nat.{ℕ, zero, suc, ◌+◌, ◌<◌}
 use mathlib.Core.Path.{◌≡◌, sym, ap, ◌∙◌}
 use mathlib.Core.Bool.{true, false}
@@ -21,8 +22,6 @@ use Rattle.states.specs.States.{state_collection}
 use Rattle.index.specs.Accepted.{AcceptedIndex}
 use Rattle.row.specs.Row.{nothing}
 use Rattle.row.specs.Search.{key_at, count_front, count_below, count_up_to, PositionIs, SearchSays}
-use Rattle.row.specs.declared.search.Searched.{Searched}
-use Rattle.row.specs.declared.search.Searched.TheVariants.{At, Absent}
 use Rattle.states_reader.specs.Inner.{OwnSays}
 
 -- ---- a key of the collection `state`
@@ -91,7 +90,7 @@ not_there k (x ∷ m) s e =
       all_weaken (λ y. Before k y.key) (λ y. equal k y.key ≡ false) (λ y g. differ k y.key (before_other k y.key g)) m above,
     ))
 
-module _ {s index : List ℕ} {count : ℕ} (b : Bytes s) (k : List ℕ) (r : Searched) (says : SearchSays s index count k r) where
+module _ {s index : List ℕ} {count : ℕ} (b : Bytes s) (k : List ℕ) (r : Result (ℕ × ℕ) ℕ) (says : SearchSays s index count k r) where
   module _ (a : AcceptedIndex s index count) where
     found : PositionIs k (records a.tree) r
     unfolding SearchSays
@@ -100,7 +99,7 @@ module _ {s index : List ℕ} {count : ℕ} (b : Bytes s) (k : List ℕ) (r : Se
     sorted : Sorted (records a.tree)
     sorted = rising_sorted (records a.tree) (accepted_table s b a.tree a.judged).fit.order
 
-  pub own_found : (position place : ℕ) → r ≡ At position place → OwnSays s index count k position
+  pub own_found : (position place : ℕ) → r ≡ Ok (position, place) → OwnSays s index count k position
   own_found position place e a i h =
       let here : (position < length (records a.tree)) × (key_at (records a.tree) position ≡ k) × (position ≡ count_below k (records a.tree)) =
       rw e at (found a) in
@@ -115,7 +114,7 @@ module _ {s index : List ℕ} {count : ℕ} (b : Bytes s) (k : List ℕ) (r : Se
       let later : position < i = omega (arith, ltb-false i position l, eqb-false i position q) in
       before_other (key position) (key i) (sorted_at (records a.tree) (sorted a) position i later (omega (arith, a.size))) (here.1 ∙ f)))))
 
-  pub own_absent : (position : ℕ) → r ≡ Absent position → OwnSays s index count k count
+  pub own_absent : (position : ℕ) → r ≡ Err position → OwnSays s index count k count
   own_absent position e a i h =
       let here : (position ≡ count_below k (records a.tree)) × (position ≡ count_up_to k (records a.tree)) = rw e at (found a) in
       let none = not_there k (records a.tree) (sorted a) (sym here.0 ∙ here.1) in

@@ -1,4 +1,5 @@
 -- The verdict on two buffers: the numbers of the pages by themselves, and number 18.
+use Rattle.std.specs.Prelude.{Result, Ok, Err}
 use Prim.Native.Nat.{ℕ, ◌+◌, ◌≤◌, ◌<◌}
 use mathlib.Core.Path.{◌≡◌, refl, sym, ap, ◌∙◌}
 use mathlib.Core.Bool.{Bool, true, false, not, false≢true}
@@ -28,19 +29,11 @@ use Rattle.states.specs.States.{state_tests, gathered_states, refused_states, ac
 use Rattle.states.proofs.Sequences.{PageBytes, sequence_back}
 use Rattle.summaries.proofs.States.{StatesPass, states_pass, states_passed}
 use Rattle.sequence.specs.Noted.{SequenceNoted, SequenceSays}
-use Rattle.sequence.specs.declared.SequenceRead.{SequenceRead}
-use Rattle.sequence.specs.declared.SequenceRead.TheVariants.{Whole, Stopped}
 use Rattle.sequence.proofs.Sizes.{few_pages_lem}
 use Rattle.index.specs.Accepted.{AcceptedIndex}
 use Rattle.judge.specs.Verdict.{RegisterSays}
-use Rattle.judge.specs.declared.Register.{Register}
-use Rattle.judge.specs.declared.Register.TheVariants.{Accepted, Refused}
 use Rattle.states_reader.specs.Held.{most_pages, StatesHeld}
 use Rattle.states_reader.specs.Inner.{IndexSays, SequenceHeld, PagesSay, HoldSays}
-use Rattle.states_reader.specs.declared.StatesIndexed.{StatesIndexed}
-use Rattle.states_reader.specs.declared.StatesIndexed.TheVariants.{Count, Unindexed}
-use Rattle.states_reader.specs.declared.PagesNoted.{PagesNoted}
-use Rattle.states_reader.specs.declared.PagesNoted.TheVariants.{Noted, Unnoted}
 
 -- ---- all tests have one number
 all_wrong : (ts : List Test) → All (λ t. t.0 ≡ WrongStates) ts → (due ts ≡ none → ⊥) → due ts ≡ some WrongStates
@@ -88,29 +81,29 @@ module _ (p : List ℕ) (t : SpeltTree) where
       too_many_pages g = not_due (λ e. omega (arith, few_pages_lem p raws reads (due_none (state_tests (records t) ps) e).1.0))
 
 -- ---- what the judging of the register says
-module _ (s index row : List ℕ) (r : Register) (says : RegisterSays s r index row) where
-  pub index_accepted : (count n : ℕ) → r ≡ Accepted count n → AcceptedIndex s index count
+module _ (s index row : List ℕ) (r : Result (ℕ × ℕ) Refusal) (says : RegisterSays s r index row) where
+  pub index_accepted : (count n : ℕ) → r ≡ Ok (count, n) → AcceptedIndex s index count
   index_accepted count n e = (rw e at says).0
 
-  pub index_refused : (x : Refusal) → r ≡ Refused x → judge s ≡ refused x
+  pub index_refused : (x : Refusal) → r ≡ Err x → judge s ≡ refused x
   index_refused x e = rw e at says
 
 -- ---- what the reading says
-module _ (p words pages : List ℕ) (r : SequenceRead) (says : SequenceSays p r words pages) where
-  pub read_whole : (n m : ℕ) → r ≡ Whole n m → SequenceNoted p words pages n m
+module _ (p words pages : List ℕ) (r : Result (ℕ × ℕ) Stop) (says : SequenceSays p r words pages) where
+  pub read_whole : (n m : ℕ) → r ≡ Ok (n, m) → SequenceNoted p words pages n m
   read_whole n m e = rw e at says
 
-  pub read_stopped : (stop : Stop) → r ≡ Stopped stop → sequence p ≡ read_stop stop
+  pub read_stopped : (stop : Stop) → r ≡ Err stop → sequence p ≡ read_stop stop
   read_stopped stop e = rw e at says
 
-module _ (p words pages : List ℕ) (r : SequenceRead) (says : SequenceSays p r words pages) (h : length p ≤ longest) where
-  pub read_early : (stop : Stop) → r ≡ Stopped stop → stop ≡ StopEarly → (t : SpeltTree) → judge_with_pages (accepted t) p ≡ refused_states EndsEarly
+module _ (p words pages : List ℕ) (r : Result (ℕ × ℕ) Stop) (says : SequenceSays p r words pages) (h : length p ≤ longest) where
+  pub read_early : (stop : Stop) → r ≡ Err stop → stop ≡ StopEarly → (t : SpeltTree) → judge_with_pages (accepted t) p ≡ refused_states EndsEarly
   read_early stop e f t = stops_early p t h (read_stopped p words pages r says stop e ∙ rw f)
 
-  pub read_departs : (stop : Stop) → r ≡ Stopped stop → stop ≡ StopDeparts → (t : SpeltTree) → judge_with_pages (accepted t) p ≡ refused_states Departs
+  pub read_departs : (stop : Stop) → r ≡ Err stop → stop ≡ StopDeparts → (t : SpeltTree) → judge_with_pages (accepted t) p ≡ refused_states Departs
   read_departs stop e f t = stops_departing p t h (read_stopped p words pages r says stop e ∙ rw f)
 
-  pub read_too_many : (n m : ℕ) → r ≡ Whole n m → most_pages < n → (t : SpeltTree) → judge_with_pages (accepted t) p ≡ refused_states WrongStates
+  pub read_too_many : (n m : ℕ) → r ≡ Ok (n, m) → most_pages < n → (t : SpeltTree) → judge_with_pages (accepted t) p ≡ refused_states WrongStates
   read_too_many n m e g t =
       let w = read_whole p words pages r says n m e in
       too_many_pages p t h w.raws w.reads (omega (arith, w.number))
@@ -151,18 +144,18 @@ module _ (s p : List ℕ) (t : SpeltTree) (raws : List RawPage) (judged : judge 
   states_right w = rw judged (none_due p t short raws reads (states_pass (map page_bytes raws) good long (records t) w))
 
 -- ---- what the parts answer
-module _ (s index : List ℕ) (r : StatesIndexed) (says : IndexSays s r index) where
-  pub is_indexed : (count : ℕ) → r ≡ Count count → AcceptedIndex s index count
+module _ (s index : List ℕ) (r : Result ℕ Refusal) (says : IndexSays s r index) where
+  pub is_indexed : (count : ℕ) → r ≡ Ok count → AcceptedIndex s index count
   is_indexed count e = rw e at says
 
-  pub is_unindexed : (p : List ℕ) (x : Refusal) → r ≡ Unindexed x → judge_states (record { states = s; pages = p }) ≡ refused_states x
+  pub is_unindexed : (p : List ℕ) (x : Refusal) → r ≡ Err x → judge_states (record { states = s; pages = p }) ≡ refused_states x
   is_unindexed p x e = let h : judge s ≡ refused x = rw e at says in states_refused s p x h
 
-module _ (p words pages : List ℕ) (r : PagesNoted) (says : PagesSay p r words pages) where
-  pub is_noted : (n m : ℕ) → r ≡ Noted n m → SequenceHeld p words pages n m
+module _ (p words pages : List ℕ) (r : Result (ℕ × ℕ) Refusal) (says : PagesSay p r words pages) where
+  pub is_noted : (n m : ℕ) → r ≡ Ok (n, m) → SequenceHeld p words pages n m
   is_noted n m e = rw e at says
 
-  pub is_unnoted : {s index : List ℕ} {count : ℕ} (a : AcceptedIndex s index count) (x : Refusal) → r ≡ Unnoted x
+  pub is_unnoted : {s index : List ℕ} {count : ℕ} (a : AcceptedIndex s index count) (x : Refusal) → r ≡ Err x
       → judge_states (record { states = s; pages = p }) ≡ refused_states x
   is_unnoted {s} a x e =
       let h : (t : SpeltTree) → judge_with_pages (accepted t) p ≡ refused_states x = rw e at says in

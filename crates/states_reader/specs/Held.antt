@@ -1,5 +1,6 @@
 -- The two buffers of states, judged: what is at hand of those that are accepted.
-use Rattle.std.specs.Prelude.{ℕ, ◌≤◌, ◌<◌, ◌≡◌, false, ◌⊎◌, List, [], ◌∷◌, map, get_or}
+use Rattle.answer.specs.declared.Refusal.{Refusal}
+use Rattle.std.specs.Prelude.{ℕ, ◌≤◌, ◌<◌, ◌≡◌, false, ◌⊎◌, List, [], ◌∷◌, map, get_or, Result, Ok, Err}
 use Rattle.bytestring.specs.Bytes.{equal}
 use Rattle.value.specs.Value.{value_digest}
 use Rattle.page.specs.Page.{RawPage, page_bytes}
@@ -10,8 +11,6 @@ use Rattle.index.specs.Accepted.{AcceptedIndex}
 use Rattle.filing.specs.Filed.{bytes_at, pages_by_digest}
 use Rattle.summing.specs.Summed.{page_mark, note_at}
 use Rattle.gathering.specs.Gathered.{Notes}
-use Rattle.states_reader.specs.declared.StatesJudged.{StatesJudged}
-use Rattle.states_reader.specs.declared.StatesJudged.TheVariants.{Held, Refused}
 
 -- A sequence has at most so many pages with digests that rise: 47 bytes each, and one empty page of 7.
 abbrev pub most_pages : ℕ
@@ -41,6 +40,6 @@ pub record StatesHeld (s p k index labels pages : List ℕ) (count n : ℕ) : Ty
   pub marked : (i : ℕ) → i < n → page_mark (get_or pages i 0) ≡ 1 → ReachedOther k (pages_by_digest raws) (bytes_at raws i) (records indexed.tree)
   pub unmarked : (i : ℕ) → i < n → ReachedOther k (pages_by_digest raws) (bytes_at raws i) (records indexed.tree) → page_mark (get_or pages i 0) ≡ 1
 
-abbrev pub StatesSay : List ℕ → List ℕ → List ℕ → StatesJudged → List ℕ → List ℕ → List ℕ → Type 0
-StatesSay s p k (Held count n) index labels pages = StatesHeld s p k index labels pages count n
-StatesSay s p k (Refused r) index labels pages = judge_states (record { states = s; pages = p }) ≡ refused_states r
+abbrev pub StatesSay : List ℕ → List ℕ → List ℕ → Result (ℕ × ℕ) Refusal → List ℕ → List ℕ → List ℕ → Type 0
+StatesSay s p k (Ok (count, n)) index labels pages = StatesHeld s p k index labels pages count n
+StatesSay s p k (Err r) index labels pages = judge_states (record { states = s; pages = p }) ≡ refused_states r

@@ -1,5 +1,6 @@
 -- What contracts inside this crate cite, and no public contract does.
-use Rattle.std.specs.Prelude.{ℕ, ◌+◌, ◌≤◌, ◌<◌, ◌≡◌, Bool, true, false, ◌&&◌, List, [], length, get_or, eqb}
+use Rattle.answer.specs.declared.Refusal.{Refusal}
+use Rattle.std.specs.Prelude.{ℕ, ◌+◌, ◌≤◌, ◌<◌, ◌≡◌, Bool, true, false, ◌&&◌, List, [], length, get_or, eqb, Result, Ok, Err}
 use Rattle.answer.specs.declared.Refusal.TheVariants.{WrongStates}
 use Rattle.bytestring.specs.Bytes.{equal}
 use Rattle.limits.specs.Limits.{longest, longest_key}
@@ -24,15 +25,11 @@ use Rattle.summing.specs.Summed.{page_mark, note_at, Summings, Reaching}
 use Rattle.summing.specs.Inner.{raws_in, file_of, LeadsOn, JudgedAt}
 use Rattle.gathering.specs.Gathered.{Notes}
 use Rattle.states_reader.specs.Held.{most_pages, StatesHeld}
-use Rattle.states_reader.specs.declared.StatesIndexed.{StatesIndexed}
-use Rattle.states_reader.specs.declared.StatesIndexed.TheVariants.{Count, Unindexed}
-use Rattle.states_reader.specs.declared.PagesNoted.{PagesNoted}
-use Rattle.states_reader.specs.declared.PagesNoted.TheVariants.{Noted, Unnoted}
 
 -- ---- the two buffers, each by itself
-abbrev pub IndexSays : List ℕ → StatesIndexed → List ℕ → Type 0
-IndexSays s (Count count) index = AcceptedIndex s index count
-IndexSays s (Unindexed r) index = judge s ≡ refused r
+abbrev pub IndexSays : List ℕ → Result ℕ Refusal → List ℕ → Type 0
+IndexSays s (Ok count) index = AcceptedIndex s index count
+IndexSays s (Err r) index = judge s ≡ refused r
 
 -- The sequence is noted; or it is refused, whatever register of states is accepted before it.
 pub record SequenceHeld (p words pages : List ℕ) (n m : ℕ) : Type 0 where
@@ -40,9 +37,9 @@ pub record SequenceHeld (p words pages : List ℕ) (n m : ℕ) : Type 0 where
   pub short : length p ≤ longest
   pub few : n ≤ most_pages
 
-abbrev pub PagesSay : List ℕ → PagesNoted → List ℕ → List ℕ → Type 0
-PagesSay p (Noted n m) words pages = SequenceHeld p words pages n m
-PagesSay p (Unnoted r) words pages = (t : SpeltTree) → judge_with_pages (accepted t) p ≡ refused_states r
+abbrev pub PagesSay : List ℕ → Result (ℕ × ℕ) Refusal → List ℕ → List ℕ → Type 0
+PagesSay p (Ok (n, m)) words pages = SequenceHeld p words pages n m
+PagesSay p (Err r) words pages = (t : SpeltTree) → judge_with_pages (accepted t) p ≡ refused_states r
 
 -- ---- the roots
 -- Whether a record is a state's.

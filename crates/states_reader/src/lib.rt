@@ -17,65 +17,48 @@ use crate::reached::{all_noted, judge_roots};
 use crate::roots::{note_roots, own_position};
 use answer::Refusal;
 use filing::file_pages;
-use judge::{Register, judge};
+use judge::judge;
 use limits::{LONGEST, MOST};
 use links::sort_words;
 use page_reader::Stop;
-use sequence::{SequenceRead, note_sequence};
+use sequence::note_sequence;
 
 // The most pages of a sequence whose digests rise: 47 bytes each, and one empty page of 7.
 const MOST_PAGES: usize = 89_241;
 
-// What two buffers are judged to be: a register of so many states and a sequence of so many pages, or refused.
-#[derive(Clone, Copy)]
-pub enum StatesJudged {
-    Held(usize, usize),
-    Refused(Refusal),
-}
-
-// What the states are judged to be by themselves: a register of so many records, or refused.
-#[derive(Clone, Copy)]
-enum StatesIndexed {
-    Count(usize),
-    Unindexed(Refusal),
-}
-
-// What the pages are judged to be by themselves: so many pages with so many links, or refused.
-#[derive(Clone, Copy)]
-enum PagesNoted {
-    Noted(usize, usize),
-    Unnoted(Refusal),
-}
-
 // Numbers 1 to 10 of the states, and their index. The row of chains is not kept.
-fn index_states(states: &[u8], index: &mut [u64]) -> StatesIndexed
+fn index_states(states: &[u8], index: &mut [u64]) -> Result<usize, Refusal>
     requires { RoomFor states.now 1 (length index.old) }
     ensures { IndexSays states.now result index.new }
 {
     let mut chains = [0u64; 2 * MOST];
     match judge(states, index, &mut chains) {
-        Register::Accepted(count, _) => StatesIndexed::Count(count),
-        Register::Refused(refusal) => StatesIndexed::Unindexed(refusal),
+        Ok((count, _)) => Ok(count),
+        Err(refusal) => Err(refusal),
     }
 }
 
 // Numbers 1, 3 and 2 of the pages, and their places and links. Where there are more pages than digests can rise, number 18 is due.
-fn note_pages(sequence: &[u8], words: &mut [u32], pages: &mut [u32]) -> PagesNoted
+fn note_pages(
+    sequence: &[u8],
+    words: &mut [u32],
+    pages: &mut [u32],
+) -> Result<(usize, usize), Refusal>
     ensures { PagesSay sequence.now result words.new pages.new }
 {
     if LONGEST < sequence.len() {
-        return PagesNoted::Unnoted(Refusal::TooLong);
+        return Err(Refusal::TooLong);
     }
     match note_sequence(sequence, words, pages) {
-        SequenceRead::Whole(n, m) => {
+        Ok((n, m)) => {
             if MOST_PAGES < n {
-                return PagesNoted::Unnoted(Refusal::WrongStates);
+                return Err(Refusal::WrongStates);
             }
-            PagesNoted::Noted(n, m)
+            Ok((n, m))
         }
-        SequenceRead::Stopped(stop) => match stop {
-            Stop::EndsEarly => PagesNoted::Unnoted(Refusal::EndsEarly),
-            Stop::Departs => PagesNoted::Unnoted(Refusal::Departs),
+        Err(stop) => match stop {
+            Stop::EndsEarly => Err(Refusal::EndsEarly),
+            Stop::Departs => Err(Refusal::Departs),
         },
     }
 }
@@ -134,20 +117,14 @@ pub fn judge_states(
     index: &mut [u64],
     labels: &mut [u32],
     pages: &mut [u32],
-) -> StatesJudged
+) -> Result<(usize, usize), Refusal>
     requires { RoomFor states.now 1 (length index.old) × (most_words ≤ length labels.old) × (most_pages ≤ length pages.old) }
     ensures { StatesSay states.now sequence.now key.now result index.new labels.new pages.new }
 {
-    match index_states(states, index) {
-        StatesIndexed::Count(count) => match note_pages(sequence, labels, pages) {
-            PagesNoted::Noted(n, m) => {
-                if !states_hold(states, sequence, key, index, count, labels, m, pages, n) {
-                    return StatesJudged::Refused(Refusal::WrongStates);
-                }
-                StatesJudged::Held(count, n)
-            }
-            PagesNoted::Unnoted(refusal) => StatesJudged::Refused(refusal),
-        },
-        StatesIndexed::Unindexed(refusal) => StatesJudged::Refused(refusal),
+    let count = index_states(states, index)?;
+    let (n, m) = note_pages(sequence, labels, pages)?;
+    if !states_hold(states, sequence, key, index, count, labels, m, pages, n) {
+        return Err(Refusal::WrongStates);
     }
+    Ok((count, n))
 }

@@ -8,7 +8,7 @@ ghost use Rattle.states_reader.specs.Inner.{RootsSay, OwnSays};
 
 use bytestring::same_bytes;
 use row::recall::recall;
-use row::search::{Searched, search};
+use row::search::search;
 use value::{DAG_CBOR, codec_at};
 
 // The words from here on name digests in the states.
@@ -68,7 +68,7 @@ pub(crate) fn own_position(states: &[u8], index: &[u64], count: usize, key: &[u8
     ensures { OwnSays states.now index.now count key.now result }
 {
     match search(states, index, count, key) {
-        Searched::At(position, _) => position,
-        Searched::Absent(_) => count,
+        Ok((position, _)) => position,
+        Err(_) => count,
     }
 }

@@ -1,4 +1,5 @@
 -- The entries of a page, one after the other, as judge_entries judges them.
+use Rattle.std.specs.Prelude.{Result, Ok, Err, Some, None, Option as OptionOf}
 use Prim.Native.Nat.{ℕ, suc, ◌+◌, ◌-◌, ◌≤◌, ◌<◌}
 use mathlib.Core.Path.{◌≡◌, refl, sym, ap, subst, ◌∙◌}
 use mathlib.Core.Bool.{true}
@@ -16,8 +17,6 @@ use Rattle.page.proofs.Readers.{read_sub}
 use Rattle.page_reader.specs.Place.{Reads, link_at, entry_at, EntryHere, Located, LocatedIs}
 use Rattle.page_reader.specs.declared.Stop.{Stop}
 use Rattle.page_reader.specs.declared.EntryAt.{EntryAt}
-use Rattle.page_reader.specs.declared.EntryRead.{EntryRead}
-use Rattle.page_reader.specs.declared.EntryRead.TheVariants.{Entry, EntryStop}
 use Rattle.page_keys.specs.Buffer.{HoldsKey, LastIs}
 use Rattle.page_keys.proofs.Buffers.{holds_none, holds_whole}
 use Rattle.tree.specs.OnePage.{key_after}
@@ -31,14 +30,12 @@ use Rattle.tree_keys.proofs.Firsts.{link_is}
 use Rattle.summing.specs.Summed.{Reaching}
 use Rattle.summing.specs.Inner.{raws_in, tree_under, Underway, Tallied, LeadsOn, JudgedAt, CarriesOn, BeforeGap, GapTold, GapAsked, EntriesTold, EntriesAsked, key_stands, KeyAsked, KeySays}
 use Rattle.summing.specs.declared.PartSum.{PartSum}
-use Rattle.summing.specs.declared.PartJudged.{PartJudged}
-use Rattle.summing.specs.declared.PartJudged.TheVariants.{Whole, Wrong}
 use Rattle.summing.proofs.Tallies.{entries_grow, entry_grows, entry_goes_on, entry_fails, key_agrees}
 use Rattle.summing.proofs.Reaching.{reaching_none, reaching_then, judged_stays}
 use Rattle.summing.proofs.Raws.{entry_there, entry_behind}
 use Rattle.summing.proofs.Gaps.{gap_carries}
 
-pub entry_located : {p : List ℕ} {at : ℕ} {got : EntryRead} {e : EntryAt} → LocatedIs p at got → got ≡ Entry e → Located p at e
+pub entry_located : {p : List ℕ} {at : ℕ} {got : Result EntryAt Stop} {e : EntryAt} → LocatedIs p at got → got ≡ Ok e → Located p at e
 entry_located {p} {at} w q = subst (LocatedIs p at) q w
 
 -- the last key is another
@@ -107,7 +104,7 @@ module _ {s p labels : List ℕ} {n : ℕ} {pages₀ counts₀ last₀ : List �
   -- what fails for the entries left fails for all
   fails : ((t : Tally) → Tallied layer cur.count last cur.size t → (u : Tally) → after_entries (tree_under p) so_far.before so_far.left t ≡ some u
       → agrees u.layer layer ≡ true → u.count ≤ most → ⊥)
-      → EntriesTold s p labels n pages₀ counts₀ last₀ start.size first entries start.count layer mark Wrong pages counts keys tags last
+      → EntriesTold s p labels n pages₀ counts₀ last₀ start.size first entries start.count layer mark None pages counts keys tags last
   fails f es past q t w u h a few =
       let x = so_far.onward t w in
       let e = same_row es past q in
@@ -115,7 +112,7 @@ module _ {s p labels : List ℕ} {n : ℕ} {pages₀ counts₀ last₀ : List �
 
   -- none is left
   pub entries_end : entries ≤ i
-      → EntriesTold s p labels n pages₀ counts₀ last₀ start.size first entries start.count layer mark (Whole cur) pages counts keys tags last
+      → EntriesTold s p labels n pages₀ counts₀ last₀ start.size first entries start.count layer mark (Some cur) pages counts keys tags last
   unfolding times after_entries links_after
   entries_end h es past q =
       let none_left : entries - i ≡ 0 = omega arith in
@@ -143,7 +140,7 @@ module _ {s p labels : List ℕ} {n : ℕ} {pages₀ counts₀ last₀ : List �
     next_there : (a : RawEntry) × ((to : ℕ) × Reads entry p at a to)
     next_there = entry_there p at (entries - (i + 1)) so_far.left (drop so_far.past p) next_read so_far.under.bytes
 
-    pub entry_found : (got : EntryRead) (stop : Stop) → LocatedIs p at got → got ≡ EntryStop stop → ⊥
+    pub entry_found : (got : Result EntryAt Stop) (stop : Stop) → LocatedIs p at got → got ≡ Err stop → ⊥
     entry_found got stop w e = let x = next_there in subst (LocatedIs p at) e w x.0 x.1.0 x.1.1
 
     module _ (e : EntryAt) (found : Located p at e) where
@@ -175,7 +172,7 @@ module _ {s p labels : List ℕ} {n : ℕ} {pages₀ counts₀ last₀ : List �
 
       -- too many records
       pub entries_too_many : most ≤ cur.count
-          → EntriesTold s p labels n pages₀ counts₀ last₀ start.size first entries start.count layer mark Wrong pages counts keys tags last
+          → EntriesTold s p labels n pages₀ counts₀ last₀ start.size first entries start.count layer mark None pages counts keys tags last
       entries_too_many h =
           fails (λ t w u q a few.
           let k = then_taken (after_entry (tree_under p) so_far.before (entry_at p e) t) (after_entries (tree_under p) key later) u (sym (one_then t) ∙ q) in
@@ -198,7 +195,7 @@ module _ {s p labels : List ℕ} {n : ℕ} {pages₀ counts₀ last₀ : List �
       -- its key was tested
       module _ (size₁ : ℕ) (buffer₁ last₁ : List ℕ) (says : KeySays buffer size p e last cur.size layer size₁ buffer₁ last₁) where
         pub key_fails : size₁ ≡ 0
-            → EntriesTold s p labels n pages₀ counts₀ last₀ start.size first entries start.count layer mark Wrong pages counts keys tags last
+            → EntriesTold s p labels n pages₀ counts₀ last₀ start.size first entries start.count layer mark None pages counts keys tags last
         key_fails z =
             fails (λ t w u q a few.
             let k = then_taken (after_entry (tree_under p) so_far.before (entry_at p e) t) (after_entries (tree_under p) key later) u (sym (one_then t) ∙ q) in
@@ -235,11 +232,11 @@ module _ {s p labels : List ℕ} {n : ℕ} {pages₀ counts₀ last₀ : List �
               (entry_goes_on so_far.before (entry_at p e) t layer (tree_under p) (stands t w) w.agree)
 
           -- the tree after it fails
-          pub entry_gap_fails : (got : PartJudged) (pages' counts' keys' tags' last' : List ℕ)
-              → GapTold s p labels n pages counts last₁ size₁ e.link (cur.count + 1) layer mark got pages' counts' keys' tags' last' → got ≡ Wrong
-              → EntriesTold s p labels n pages₀ counts₀ last₀ start.size first entries start.count layer mark Wrong pages counts keys tags last
+          pub entry_gap_fails : (got : OptionOf PartSum) (pages' counts' keys' tags' last' : List ℕ)
+              → GapTold s p labels n pages counts last₁ size₁ e.link (cur.count + 1) layer mark got pages' counts' keys' tags' last' → got ≡ None
+              → EntriesTold s p labels n pages₀ counts₀ last₀ start.size first entries start.count layer mark None pages counts keys tags last
           entry_gap_fails got pages' counts' keys' tags' last' gap g =
-              let no = subst (λ (r : PartJudged). GapTold s p labels n pages counts last₁ size₁ e.link (cur.count + 1) layer mark r pages' counts' keys' tags' last') g gap in
+              let no = subst (λ (r : OptionOf PartSum). GapTold s p labels n pages counts last₁ size₁ e.link (cur.count + 1) layer mark r pages' counts' keys' tags' last') g gap in
               fails (λ t w u q a few.
               let k = then_taken (after_gap (tree_under p) (link_at p e.link) (with_key key t)) (after_entries (tree_under p) key later) u (sym (goes_on t w) ∙ q) in
               no (with_key key t) (with_key_lem t w) k.between k.there
@@ -273,12 +270,12 @@ module _ {s p labels : List ℕ} {n : ℕ} {pages₀ counts₀ last₀ : List �
           }
 
           -- the tree after it is judged
-          pub entries_go_on : (got : PartJudged) (next : PartSum) (pages' counts' keys' tags' last' : List ℕ)
-              → GapTold s p labels n pages counts last₁ size₁ e.link (cur.count + 1) layer mark got pages' counts' keys' tags' last' → got ≡ Whole next
+          pub entries_go_on : (got : OptionOf PartSum) (next : PartSum) (pages' counts' keys' tags' last' : List ℕ)
+              → GapTold s p labels n pages counts last₁ size₁ e.link (cur.count + 1) layer mark got pages' counts' keys' tags' last' → got ≡ Some next
               → SummedSoFar s p labels n pages₀ counts₀ last₀ start first entries layer mark pages' counts' keys' tags' last' buffer₁ size₁ next e.end (i + 1)
           unfolding then_tally
           entries_go_on got next pages' counts' keys' tags' last' gap g =
-              let whole = subst (λ (r : PartJudged). GapTold s p labels n pages counts last₁ size₁ e.link (cur.count + 1) layer mark r pages' counts' keys' tags' last') g gap in
+              let whole = subst (λ (r : OptionOf PartSum). GapTold s p labels n pages counts last₁ size₁ e.link (cur.count + 1) layer mark r pages' counts' keys' tags' last') g gap in
               let grew : (digest : List ℕ) → CarriesOn p (links_after so_far.all) digest → Reaching (raws_in p) n mark digest pages counts pages' counts' =
               λ digest f. whole.grown digest (λ d q j r. f d q (so_far.links d (link_among d j)) r) in
               record {

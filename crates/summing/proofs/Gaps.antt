@@ -1,4 +1,5 @@
 -- The tree under a gap's link, as judge_gap judges it.
+use Rattle.std.specs.Prelude.{Some}
 use Prim.Native.Nat.{ℕ, zero, suc, ◌+◌, ◌-◌, ◌≤◌, ◌<◌}
 use mathlib.Core.Path.{◌≡◌, refl, sym, ap, subst, ◌∙◌}
 use mathlib.Core.Bool.{Bool, true, false, not, false≢true}
@@ -21,7 +22,6 @@ use Rattle.tree_keys.specs.Ends.{SummaryAt, Leads, LeadsTo, LastSays, KeptKeys}
 use Rattle.tree_keys.proofs.Firsts.{link_is, no_link_lem}
 use Rattle.summing.specs.Summed.{note_at, Summings, Reaching, TreeSays}
 use Rattle.summing.specs.Inner.{raws_in, file_of, tree_under, Underway, LastOf, CarriesOn, NoPart, BeforeGap, GapTold, GapAsked, FirstFollows}
-use Rattle.summing.specs.declared.PartJudged.TheVariants.{Whole}
 use Rattle.summing.proofs.Reaching.{reaching_none, reaching_up}
 
 -- the same key in another buffer
@@ -48,7 +48,7 @@ module _ {s p labels pages counts : List ℕ} {n : ℕ} {keys tags last before :
 
   -- no link
   pub gap_empty : link ≡ 0
-      → GapTold s p labels n pages counts last size link count layer mark (Whole (record { count = count; size = size })) pages counts keys tags last
+      → GapTold s p labels n pages counts last size link count layer mark (Some (record { count = count; size = size })) pages counts keys tags last
   unfolding after_gap link_list
   gap_empty z =
       let e = no_link_lem p link z in
@@ -158,7 +158,7 @@ module _ {s p labels pages counts : List ℕ} {n : ℕ} {keys tags last before :
               passes_of false w h = absurd (false≢true (sym h))
 
           pub gap_whole : Underway s p labels pages₁ counts₁ n keys₁ tags₁ last₁
-              → GapTold s p labels n pages counts last size link count layer mark (Whole (record { count = count + get_or counts₁ c 0; size = length₁ }))
+              → GapTold s p labels n pages counts last size link count layer mark (Some (record { count = count + get_or counts₁ c 0; size = length₁ }))
               pages₁ counts₁ keys₁ tags₁ last₁
           unfolding after_gap agrees
           gap_whole now = record {

@@ -1,4 +1,5 @@
 -- A filed page, as it was read where its word says.
+use Rattle.std.specs.Prelude.{Result, Ok, Err}
 use Prim.Native.Nat.{ℕ, zero, suc, ◌<◌}
 use mathlib.Core.Path.{◌≡◌, refl, sym, ap, subst, ◌∙◌}
 use mathlib.Core.Option.{none, none-ne-some}
@@ -14,8 +15,6 @@ use Rattle.page_reader.specs.Place.{Reads, link_at, entry_at, EntryHere, PageHer
 use Rattle.page_reader.specs.declared.Stop.{Stop}
 use Rattle.page_reader.specs.declared.EntryAt.{EntryAt}
 use Rattle.page_reader.specs.declared.PageAt.{PageAt}
-use Rattle.page_reader.specs.declared.PageRead.{PageRead}
-use Rattle.page_reader.specs.declared.PageRead.TheVariants.{Page, PageStop}
 use Rattle.page_reader.proofs.Located.{entry_place}
 use Rattle.page_keys.proofs.Entries.{read_stop≢read}
 use Rattle.summaries.specs.Summary.{summary_of_page}
@@ -55,14 +54,14 @@ link_none p (suc before) e = absurd (none-ne-some _ (sym e))
 
 -- ---- the page
 module _ {s p labels pages counts : List ℕ} {n : ℕ} {keys tags last : List ℕ} {i : ℕ} (under : Underway s p labels pages counts n keys tags last) (h : i < n)
-    (at : ℕ) (place : at ≡ page_place (get_or pages i 0)) (got : PageRead) (w : PageIs p at got) where
+    (at : ℕ) (place : at ≡ page_place (get_or pages i 0)) (got : Result PageAt Stop) (w : PageIs p at got) where
   pub page_reads_at : (to : ℕ) × Reads page p at (get_or (raws_in p) i no_page) to
   page_reads_at = let x = under.summings.filed.places i h in (x.0, rw place x.1)
 
-  pub page_stands : (stop : Stop) → got ≡ PageStop stop → ⊥
+  pub page_stands : (stop : Stop) → got ≡ Err stop → ⊥
   page_stands stop q = read_stop≢read stop (sym (subst (PageIs p at) q w) ∙ page_reads_at.1.reads)
 
-  module _ (pa : PageAt) (q : got ≡ Page pa) where
+  module _ (pa : PageAt) (q : got ≡ Ok pa) where
     pub page_here_lem : PageHere p at pa
     page_here_lem = subst (PageIs p at) q w
 

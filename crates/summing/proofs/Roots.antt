@@ -1,4 +1,5 @@
 -- The page of a root, as judge_root judges it.
+use Rattle.std.specs.Prelude.{Result, Ok, Err}
 use Prim.Native.Nat.{ℕ, suc, ◌+◌, ◌-◌, ◌≤◌, ◌<◌}
 use mathlib.Core.Path.{◌≡◌, refl, sym, ap, subst, ◌∙◌}
 use mathlib.Core.Bool.{Bool, true, false}
@@ -22,11 +23,7 @@ use Rattle.page.specs.Page.{RawEntry, RawPage, entry}
 use Rattle.page_reader.specs.Place.{Reads, link_at, entry_at, Located, LocatedIs, PageIs}
 use Rattle.page_reader.specs.declared.Stop.{Stop}
 use Rattle.page_reader.specs.declared.EntryAt.{EntryAt}
-use Rattle.page_reader.specs.declared.EntryRead.{EntryRead}
-use Rattle.page_reader.specs.declared.EntryRead.TheVariants.{EntryStop}
 use Rattle.page_reader.specs.declared.PageAt.{PageAt}
-use Rattle.page_reader.specs.declared.PageRead.{PageRead}
-use Rattle.page_reader.specs.declared.PageRead.TheVariants.{Page, PageStop}
 use Rattle.tree.specs.OnePage.{key_after}
 use Rattle.promises.specs.Map.{is_there}
 use Rattle.promises.specs.Promises.{Among}
@@ -85,11 +82,11 @@ not_there none f = refl
 not_there (some x) f = absurd (f x refl)
 
 module _ {s p labels pages counts : List ℕ} {n : ℕ} {keys tags last : List ℕ} {i mark : ℕ} (under : Underway s p labels pages counts n keys tags last) (h : i < n)
-    (small : mark < 2) (at : ℕ) (place : at ≡ page_place (get_or pages i 0)) (got : PageRead) (w : PageIs p at got) where
-  pub root_stops : (stop : Stop) → got ≡ PageStop stop → ⊥
+    (small : mark < 2) (at : ℕ) (place : at ≡ page_place (get_or pages i 0)) (got : Result PageAt Stop) (w : PageIs p at got) where
+  pub root_stops : (stop : Stop) → got ≡ Err stop → ⊥
   root_stops stop q = page_stands under h at place got w stop q
 
-  module _ (pa : PageAt) (q : got ≡ Page pa) where
+  module _ (pa : PageAt) (q : got ≡ Ok pa) where
     abbrev es : List RawEntry
     es = entries_of_lem under h at place got w pa q
 
@@ -168,7 +165,7 @@ module _ {s p labels pages counts : List ℕ} {n : ℕ} {keys tags last : List �
       first_there : (a : RawEntry) × ((to : ℕ) × Reads entry p pa.first a to)
       first_there = entry_there p pa.first (pa.count - 1) es (drop pa.past p) row_read under.bytes
 
-      pub root_entry_there : (found : EntryRead) (stop : Stop) → LocatedIs p pa.first found → found ≡ EntryStop stop → ⊥
+      pub root_entry_there : (found : Result EntryAt Stop) (stop : Stop) → LocatedIs p pa.first found → found ≡ Err stop → ⊥
       root_entry_there found stop f e = let x = first_there in subst (LocatedIs p pa.first) e f x.0 x.1.0 x.1.1
 
       module _ (e : EntryAt) (found : Located p pa.first e) where

@@ -1,4 +1,5 @@
 -- The tree under one page, as judge_tree judges it.
+use Rattle.std.specs.Prelude.{Result, Ok, Err, Some, None, Option as OptionOf}
 use Prim.Native.Nat.{ℕ, suc, ◌+◌, ◌-◌, ◌≤◌, ◌<◌}
 use mathlib.Core.Path.{◌≡◌, refl, sym, ap, subst, ◌∙◌}
 use mathlib.Core.Bool.{Bool, true, false}
@@ -17,8 +18,6 @@ use Rattle.page.specs.Page.{RawEntry, entry, RawPage}
 use Rattle.page_reader.specs.Place.{link_at, PageHere, PageIs}
 use Rattle.page_reader.specs.declared.Stop.{Stop}
 use Rattle.page_reader.specs.declared.PageAt.{PageAt}
-use Rattle.page_reader.specs.declared.PageRead.{PageRead}
-use Rattle.page_reader.specs.declared.PageRead.TheVariants.{Page, PageStop}
 use Rattle.promises.specs.Promises.{Among}
 use Rattle.promises.proofs.DifferenceLaws.{among_left, among_right}
 use Rattle.states.specs.Pages.{link_list, links_after}
@@ -33,8 +32,6 @@ use Rattle.tree_keys.proofs.Following.{links_order}
 use Rattle.summing.specs.Summed.{note_at, Summings, Reaching, TreeSays}
 use Rattle.summing.specs.Inner.{raws_in, tree_under, Underway, Tallied, LeadsOn, JudgedAt, CarriesOn, PartWhole, BeforeGap, GapTold, GapAsked, EntriesTold, EntriesAsked, PageNoted}
 use Rattle.summing.specs.declared.PartSum.{PartSum}
-use Rattle.summing.specs.declared.PartJudged.{PartJudged}
-use Rattle.summing.specs.declared.PartJudged.TheVariants.{Whole, Wrong}
 use Rattle.summing.proofs.Tallies.{entries_grow, page_sums}
 use Rattle.summing.proofs.Reaching.{reaching_none, reaching_then, judged_stays}
 use Rattle.summing.proofs.Pages.{raws_are, links_lead, reached_here, reached_on}
@@ -75,11 +72,11 @@ module _ {s p labels pages counts : List ℕ} {n : ℕ} {keys tags last : List �
           let k = ap (λ (z : Summary). z.layer) same in
           eqb-false (note_at pages i) (layer + 1) q (omega (arith, y.2)))
 
-  module _ (at : ℕ) (place : at ≡ page_place (get_or pages i 0)) (got : PageRead) (w : PageIs p at got) where
-    pub tree_stops : (stop : Stop) → got ≡ PageStop stop → TreeSays s p labels pages counts n i layer mark false pages counts
+  module _ (at : ℕ) (place : at ≡ page_place (get_or pages i 0)) (got : Result PageAt Stop) (w : PageIs p at got) where
+    pub tree_stops : (stop : Stop) → got ≡ Err stop → TreeSays s p labels pages counts n i layer mark false pages counts
     tree_stops stop q = absurd (page_stands under h at place got w stop q)
 
-    module _ (pa : PageAt) (q : got ≡ Page pa) where
+    module _ (pa : PageAt) (q : got ≡ Ok pa) where
       here : PageHere p at pa
       here = page_here_lem under h at place got w pa q
 
@@ -156,25 +153,25 @@ module _ {s p labels pages counts : List ℕ} {n : ℕ} {keys tags last : List �
       unfolding agrees
       left_starts = (record { number = refl; agree = refl; latest = refl }, λ _. refl)
 
-      module _ (gapped : PartJudged) (pages₁ counts₁ keys₁ tags₁ last₁ : List ℕ)
+      module _ (gapped : OptionOf PartSum) (pages₁ counts₁ keys₁ tags₁ last₁ : List ℕ)
           (gap : GapTold s p labels n pages counts last 0 pa.left 0 layer mark gapped pages₁ counts₁ keys₁ tags₁ last₁) where
         left_agrees : (x : Summary) (e : SummaryAt (raws_in p) i x) → x.layer ≡ layer → agrees (parts x e).left.layer layer ≡ true
         left_agrees x e l =
             let k = parts x e in
             entries_agree layer (tree_under p) [] es k.left k.whole k.entries (subst (λ (m : ℕ). agrees k.whole.layer m ≡ true) l (whole_agrees k.whole x k.sums))
 
-        pub tree_no_gap : gapped ≡ Wrong → TreeSays s p labels pages counts n i layer mark false pages₁ counts₁
+        pub tree_no_gap : gapped ≡ None → TreeSays s p labels pages counts n i layer mark false pages₁ counts₁
         tree_no_gap g =
-            let no = subst (λ (r : PartJudged). GapTold s p labels n pages counts last 0 pa.left 0 layer mark r pages₁ counts₁ keys₁ tags₁ last₁) g gap in
+            let no = subst (λ (r : OptionOf PartSum). GapTold s p labels n pages counts last 0 pa.left 0 layer mark r pages₁ counts₁ keys₁ tags₁ last₁) g gap in
             tree_false s p labels pages counts n i layer mark pages₁ counts₁ (λ x e l.
             let k = parts x e in
             no no_tally left_starts k.left k.gap (left_agrees x e l)
             (omega (arith, entries_grow (tree_under p) [] es k.left k.whole k.entries, k.sums.count, k.sums.few)))
 
-        module _ (start : PartSum) (g : gapped ≡ Whole start) where
+        module _ (start : PartSum) (g : gapped ≡ Some start) where
           left_whole : PartWhole (BeforeGap layer 0 last 0) (after_gap (tree_under p) (link_at p pa.left)) (link_list (link_at p pa.left)) s p labels n layer mark
               pages counts pages₁ counts₁ keys₁ tags₁ last₁ start
-          left_whole = subst (λ (r : PartJudged). GapTold s p labels n pages counts last 0 pa.left 0 layer mark r pages₁ counts₁ keys₁ tags₁ last₁) g gap
+          left_whole = subst (λ (r : OptionOf PartSum). GapTold s p labels n pages counts last 0 pa.left 0 layer mark r pages₁ counts₁ keys₁ tags₁ last₁) g gap
 
           pub left_underway : Underway s p labels pages₁ counts₁ n keys₁ tags₁ last₁
           left_underway = left_whole.underway
@@ -194,11 +191,11 @@ module _ {s p labels pages counts : List ℕ} {n : ℕ} {keys tags last : List �
           left_tally : (u : Tally) × (after_gap (tree_under p) (link_at p pa.left) no_tally ≡ some u) × Tallied layer start.count last₁ start.size u
           left_tally = left_whole.tally no_tally left_starts
 
-          module _ (judged : PartJudged) (pages₂ counts₂ keys₂ tags₂ last₂ : List ℕ)
+          module _ (judged : OptionOf PartSum) (pages₂ counts₂ keys₂ tags₂ last₂ : List ℕ)
               (entries : EntriesTold s p labels n pages₁ counts₁ last₁ start.size pa.first pa.count start.count layer mark judged pages₂ counts₂ keys₂ tags₂ last₂) where
-            pub tree_no_entries : judged ≡ Wrong → TreeSays s p labels pages counts n i layer mark false pages₂ counts₂
+            pub tree_no_entries : judged ≡ None → TreeSays s p labels pages counts n i layer mark false pages₂ counts₂
             tree_no_entries z =
-                let no = subst (λ (r : PartJudged). EntriesTold s p labels n pages₁ counts₁ last₁ start.size pa.first pa.count start.count layer mark r
+                let no = subst (λ (r : OptionOf PartSum). EntriesTold s p labels n pages₁ counts₁ last₁ start.size pa.first pa.count start.count layer mark r
                 pages₂ counts₂ keys₂ tags₂ last₂) z entries es pa.past es_read in
                 tree_false s p labels pages counts n i layer mark pages₂ counts₂ (λ x e l.
                 let k = parts x e in
@@ -207,10 +204,10 @@ module _ {s p labels pages counts : List ℕ} {n : ℕ} {keys tags last : List �
                 (subst (λ (m : ℕ). agrees k.whole.layer m ≡ true) l (whole_agrees k.whole x k.sums))
                 (omega (arith, k.sums.count, k.sums.few)))
 
-            module _ (sum : PartSum) (z : judged ≡ Whole sum) where
+            module _ (sum : PartSum) (z : judged ≡ Some sum) where
               whole : PartWhole (Tallied layer start.count last₁ start.size) (after_entries (tree_under p) [] es) (links_after es) s p labels n layer mark
                   pages₁ counts₁ pages₂ counts₂ keys₂ tags₂ last₂ sum
-              whole = subst (λ (r : PartJudged). EntriesTold s p labels n pages₁ counts₁ last₁ start.size pa.first pa.count start.count layer mark r
+              whole = subst (λ (r : OptionOf PartSum). EntriesTold s p labels n pages₁ counts₁ last₁ start.size pa.first pa.count start.count layer mark r
                   pages₂ counts₂ keys₂ tags₂ last₂) z entries es pa.past es_read
 
               tree_summings : Summings s p labels pages₂ counts₂ n (raws_in p)

@@ -1,5 +1,5 @@
 -- What contracts inside this crate cite, and no public contract does.
-use Rattle.std.specs.Prelude.{ℕ, suc, ◌+◌, ◌≤◌, ◌<◌, ◌≡◌, Bool, true, false, ◌&&◌, List, [], length, take, drop, set, eqb}
+use Rattle.std.specs.Prelude.{ℕ, suc, ◌+◌, ◌≤◌, ◌<◌, ◌≡◌, Bool, true, false, ◌&&◌, List, [], length, take, drop, set, eqb, Some, None, Option as OptionOf}
 use Rattle.std.proofs.Math.Option.{Option, none, some}
 use Rattle.bytestring.specs.Bytes.{Bytes}
 use Rattle.limits.specs.Limits.{deepest, longest_key, most, numbers}
@@ -21,8 +21,6 @@ use Rattle.filing.specs.Filed.{bytes_at, pages_by_digest, Filed, page_place}
 use Rattle.tree_keys.specs.Ends.{SummaryAt, KeptKeys}
 use Rattle.summing.specs.Summed.{page_note, page_mark, note_at, Summings, Reaching}
 use Rattle.summing.specs.declared.PartSum.{PartSum}
-use Rattle.summing.specs.declared.PartJudged.{PartJudged}
-use Rattle.summing.specs.declared.PartJudged.TheVariants.{Whole, Wrong}
 
 -- The pages of a sequence, and the summary of the tree under a digest of one of them.
 unfoldable pub raws_of : Read (List RawPage) → List RawPage
@@ -83,16 +81,16 @@ abbrev pub NoPart : (Tally → Type 0) → (Tally → Option Tally) → ℕ → 
 NoPart Start step layer = (t : Tally) → Start t → (u : Tally) → step t ≡ some u → agrees u.layer layer ≡ true → u.count ≤ most → ⊥
 
 abbrev pub PartSays : (Tally → Type 0) → (Tally → Option Tally) → List (List ℕ) → List ℕ → List ℕ → List ℕ → ℕ → ℕ → ℕ
-    → List ℕ → List ℕ → PartJudged → List ℕ → List ℕ → List ℕ → List ℕ → List ℕ → Type 0
-PartSays Start step links s p labels n layer mark pages counts (Whole sum) pages' counts' keys' tags' last' =
+    → List ℕ → List ℕ → OptionOf PartSum → List ℕ → List ℕ → List ℕ → List ℕ → List ℕ → Type 0
+PartSays Start step links s p labels n layer mark pages counts (Some sum) pages' counts' keys' tags' last' =
     PartWhole Start step links s p labels n layer mark pages counts pages' counts' keys' tags' last' sum
-PartSays Start step links s p labels n layer mark pages counts Wrong pages' counts' keys' tags' last' = NoPart Start step layer
+PartSays Start step links s p labels n layer mark pages counts None pages' counts' keys' tags' last' = NoPart Start step layer
 
 -- A gap: the link at a place, or none at place 0, after the last key so far, if there is one.
 abbrev pub BeforeGap : ℕ → ℕ → List ℕ → ℕ → Tally → Type 0
 BeforeGap layer count last size t = Tallied layer count last size t × (size ≡ 0 → t.last ≡ none)
 
-abbrev pub GapTold : List ℕ → List ℕ → List ℕ → ℕ → List ℕ → List ℕ → List ℕ → ℕ → ℕ → ℕ → ℕ → ℕ → PartJudged
+abbrev pub GapTold : List ℕ → List ℕ → List ℕ → ℕ → List ℕ → List ℕ → List ℕ → ℕ → ℕ → ℕ → ℕ → ℕ → OptionOf PartSum
     → List ℕ → List ℕ → List ℕ → List ℕ → List ℕ → Type 0
 GapTold s p labels n pages counts last size link count layer mark r pages' counts' keys' tags' last' =
     PartSays (BeforeGap layer count last size) (after_gap (tree_under p) (link_at p link)) (link_list (link_at p link)) s p labels n layer mark
@@ -108,7 +106,7 @@ pub record GapAsked (p : List ℕ) (n : ℕ) (before last : List ℕ) (size link
   pub marked : mark < 2
 
 -- The entries of a page, after the gap before them.
-abbrev pub EntriesTold : List ℕ → List ℕ → List ℕ → ℕ → List ℕ → List ℕ → List ℕ → ℕ → ℕ → ℕ → ℕ → ℕ → ℕ → PartJudged
+abbrev pub EntriesTold : List ℕ → List ℕ → List ℕ → ℕ → List ℕ → List ℕ → List ℕ → ℕ → ℕ → ℕ → ℕ → ℕ → ℕ → OptionOf PartSum
     → List ℕ → List ℕ → List ℕ → List ℕ → List ℕ → Type 0
 EntriesTold s p labels n pages counts last size first entries count layer mark r pages' counts' keys' tags' last' =
     (es : List RawEntry) (past : ℕ) → times entries entry (drop first p) ≡ read es (drop past p)

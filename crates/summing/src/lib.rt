@@ -14,7 +14,7 @@ use bytestring::write_bytes;
 use key_calls::layers::layer_of;
 use limits::{DEEPEST, LONGEST_KEY, MOST};
 use page_keys::{extend_key, key_is_lawful, key_rises, prefix_fits};
-use page_reader::{EntryAt, EntryRead, PageRead, locate_entry, read_page};
+use page_reader::{EntryAt, locate_entry, read_page};
 use tree_keys::{first_key, kept_last_key, linked_page};
 
 // A page's word holds its place below this number, its note above it, and its mark above the note.
@@ -35,12 +35,6 @@ const ROOM: usize = 257;
 pub struct PartSum {
     pub count: usize,
     pub size: usize,
-}
-
-#[derive(Clone, Copy)]
-pub enum PartJudged {
-    Whole(PartSum),
-    Wrong,
 }
 
 fn word_place(word: u32) -> usize
@@ -161,18 +155,18 @@ fn judge_gap(
     count: usize,
     layer: usize,
     mark: u32,
-) -> PartJudged
+) -> Option<PartSum>
     requires { Underway states.now sequence.now labels.now pages.old counts.old n keys.old tags.old last.old × GapAsked sequence.now n before.now last.old size link count layer mark }
     ensures { GapTold states.now sequence.now labels.now n pages.old counts.old last.old size link count layer mark result pages.new counts.new keys.new tags.new last.new }
 {
     if link == 0 {
-        return PartJudged::Whole(PartSum {
+        return Some(PartSum {
             count: count,
             size: size,
         });
     }
     if layer == 0 {
-        return PartJudged::Wrong;
+        return None;
     }
     let c = linked_page(states, sequence, labels, n, link);
     if !judge_tree(
@@ -189,17 +183,17 @@ fn judge_gap(
         layer - 1,
         mark,
     ) {
-        return PartJudged::Wrong;
+        return None;
     }
     if !first_follows(states, sequence, labels, pages, n, c, before, size) {
-        return PartJudged::Wrong;
+        return None;
     }
     let sum = count + counts[c] as usize;
     if MOST < sum {
-        return PartJudged::Wrong;
+        return None;
     }
     let length = kept_last_key(states, sequence, labels, pages, n, c, keys, tags, last);
-    PartJudged::Whole(PartSum {
+    Some(PartSum {
         count: sum,
         size: length,
     })
@@ -222,7 +216,7 @@ fn judge_entries(
     start: PartSum,
     layer: usize,
     mark: u32,
-) -> PartJudged
+) -> Option<PartSum>
     requires { Underway states.now sequence.now labels.now pages.old counts.old n keys.old tags.old last.old × EntriesAsked sequence.now n first entries start.count layer mark }
     ensures { EntriesTold states.now sequence.now labels.now n pages.old counts.old last.old start.size first entries start.count layer mark result pages.new counts.new keys.new tags.new last.new }
 {
@@ -233,15 +227,15 @@ fn judge_entries(
     let mut i = 0;
     while i < entries {
         match locate_entry(sequence, at) {
-            EntryRead::Entry(e) => {
+            Ok(e) => {
                 let link = e.link;
                 let count = cur.count;
                 if MOST <= count {
-                    return PartJudged::Wrong;
+                    return None;
                 }
                 size = take_key(&mut buffer, size, sequence, e, last, cur.size, layer);
                 if size == 0 {
-                    return PartJudged::Wrong;
+                    return None;
                 }
                 i += 1;
                 at = e.end;
@@ -262,20 +256,20 @@ fn judge_entries(
                     layer,
                     mark,
                 ) {
-                    PartJudged::Whole(next) => {
+                    Some(next) => {
                         cur = next;
                     }
-                    PartJudged::Wrong => {
-                        return PartJudged::Wrong;
+                    None => {
+                        return None;
                     }
                 }
             }
-            EntryRead::EntryStop(_) => {
-                return PartJudged::Wrong;
+            Err(_) => {
+                return None;
             }
         }
     }
-    PartJudged::Whole(cur)
+    Some(cur)
 }
 
 // Whether the tree under the i-th page has a summary of this layer. Each page is judged once: a page that was judged has its layer in its
@@ -308,7 +302,7 @@ fn judge_tree(
         }
     }
     match read_page(sequence, place) {
-        PageRead::Page(p) => {
+        Ok(p) => {
             let left = p.left;
             let first = p.first;
             let entries = p.count;
@@ -321,20 +315,20 @@ fn judge_tree(
                 states, sequence, labels, n, pages, counts, keys, tags, last, states, 0, left, 0,
                 layer, mark,
             ) {
-                PartJudged::Whole(start) => match judge_entries(
+                Some(start) => match judge_entries(
                     states, sequence, labels, n, pages, counts, keys, tags, last, first, entries,
                     start, layer, mark,
                 ) {
-                    PartJudged::Whole(sum) => {
+                    Some(sum) => {
                         note_page(pages, counts, i, place, layer + 1, mark, sum.count);
                         true
                     }
-                    PartJudged::Wrong => false,
+                    None => false,
                 },
-                PartJudged::Wrong => false,
+                None => false,
             }
         }
-        PageRead::PageStop(_) => false,
+        Err(_) => false,
     }
 }
 
@@ -360,7 +354,7 @@ pub fn judge_root(
     let place = word_place(word);
     let note = word_note(word);
     match read_page(sequence, place) {
-        PageRead::Page(p) => {
+        Ok(p) => {
             let first = p.first;
             if p.count == 0 {
                 if p.left != 0 {
@@ -375,7 +369,7 @@ pub fn judge_root(
                 return true;
             }
             match locate_entry(sequence, first) {
-                EntryRead::Entry(e) => {
+                Ok(e) => {
                     let from = e.remainder;
                     let size = e.size;
                     if LONGEST_KEY < size {
@@ -388,9 +382,9 @@ pub fn judge_root(
                         mark,
                     )
                 }
-                EntryRead::EntryStop(_) => false,
+                Err(_) => false,
             }
         }
-        PageRead::PageStop(_) => false,
+        Err(_) => false,
     }
 }

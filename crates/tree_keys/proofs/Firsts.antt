@@ -1,4 +1,5 @@
 -- The first of some entries, and the left link of a page.
+use Rattle.std.specs.Prelude.{Result, Ok, Err}
 use Prim.Native.Nat.{ℕ, zero, suc, ◌+◌, ◌-◌}
 use mathlib.Core.Path.{◌≡◌, refl, sym, subst, ◌∙◌}
 use mathlib.Core.Option.{Option, none, some, none-ne-some}
@@ -13,8 +14,6 @@ use Rattle.page.proofs.Readers.{read_sub, andThen-inv}
 use Rattle.page_reader.specs.Place.{Reads, link_at, LocatedIs}
 use Rattle.page_reader.specs.declared.Stop.{Stop}
 use Rattle.page_reader.specs.declared.EntryAt.{EntryAt}
-use Rattle.page_reader.specs.declared.EntryRead.{EntryRead}
-use Rattle.page_reader.specs.declared.EntryRead.TheVariants.{Entry, EntryStop}
 use Rattle.page_reader.proofs.Located.{entry_place}
 use Rattle.summaries.specs.Summary.{Summary, after_gap, after_entries, then_tally, summed, summed_tally, summary_of_page, summary}
 use Rattle.tree_keys.specs.Inner.{OwnFirst}
@@ -38,7 +37,7 @@ module _ (p : List ℕ) (first count : ℕ) where
         absurd (read_sub (λ (l : List RawEntry) _. FirstIs e l → ⊥) none_read (λ i. i) refl);
   }
 
-  module _ (some_left : count ≡ 0 → ⊥) (b : Bytes p) (got : EntryRead) (w : LocatedIs p first got) where
+  module _ (some_left : count ≡ 0 → ⊥) (b : Bytes p) (got : Result EntryAt Stop) (w : LocatedIs p first got) where
     entry_first : (e : RawEntry) (es : List RawEntry) (past : ℕ) → times count entry (drop first p) ≡ read (e ∷ es) (drop past p)
         → (to : ℕ) × Reads entry p first e to
     unfolding times
@@ -50,13 +49,13 @@ module _ (p : List ℕ) (first count : ℕ) where
         (_, subst (λ (x : RawEntry). Reads entry p first x (first + length (entry_bytes a))) same (entry_place p first a t b h))))
         (rw one_less at r)
 
-    pub first_lost : (stop : Stop) → got ≡ EntryStop stop → OwnFirst p first count nowhere
+    pub first_lost : (stop : Stop) → got ≡ Err stop → OwnFirst p first count nowhere
     first_lost stop q = record {
       within = omega arith;
       remainder = λ e es past r. let x = entry_first e es past r in absurd (subst (LocatedIs p first) q w e x.0 x.1);
     }
 
-    pub first_located : (e : EntryAt) → got ≡ Entry e → OwnFirst p first count (record { place = e.remainder; size = e.size })
+    pub first_located : (e : EntryAt) → got ≡ Ok e → OwnFirst p first count (record { place = e.remainder; size = e.size })
     first_located e q =
         let l = subst (LocatedIs p first) q w in
         record {

@@ -1,4 +1,5 @@
 -- The last key of a page's own, and the link after it.
+use Rattle.std.specs.Prelude.{Result, Ok, Err}
 use Prim.Native.Nat.{ℕ, zero, suc, ◌+◌, ◌-◌, ◌≤◌, ◌<◌}
 use mathlib.Core.Path.{◌≡◌, refl, sym, ap, subst, ◌∙◌}
 use mathlib.Core.Logic.{inl}
@@ -17,10 +18,6 @@ use Rattle.page.proofs.Readers.{andThen-inv}
 use Rattle.page_reader.specs.Place.{Reads, NumberIs, link_at, entry_at, EntryHere, Located, LocatedIs, page_start}
 use Rattle.page_reader.specs.declared.Stop.{Stop}
 use Rattle.page_reader.specs.declared.EntryAt.{EntryAt}
-use Rattle.page_reader.specs.declared.EntryRead.{EntryRead}
-use Rattle.page_reader.specs.declared.EntryRead.TheVariants.{Entry, EntryStop}
-use Rattle.page_reader.specs.declared.NumberRead.{NumberRead}
-use Rattle.page_reader.specs.declared.NumberRead.TheVariants.{Number, NumberStop}
 use Rattle.page_reader.proofs.Located.{entry_place}
 use Rattle.tree.specs.OnePage.{key_after}
 use Rattle.promises.specs.Promises.{Among}
@@ -127,7 +124,7 @@ module _ (p : List ℕ) (first count left j at : ℕ) (last : List ℕ) (size li
   pub spelling_ends : count ≤ j → length last ≡ longest_key → EntriesEndWith p first count left last (record { size = size; link = link })
   spelling_ends = spelt_row
 
-  module _ (h : j < count) (b : Bytes p) (got : EntryRead) (w : LocatedIs p at got) where
+  module _ (h : j < count) (b : Bytes p) (got : Result EntryAt Stop) (w : LocatedIs p at got) where
     entry_stands : (l : List RawEntry) (past : ℕ) → times (count - j) entry (drop at p) ≡ read l (drop past p)
         → (a : RawEntry) × Reads entry p at a (at + length (entry_bytes a))
     unfolding times
@@ -135,14 +132,14 @@ module _ (p : List ℕ) (first count left j at : ℕ) (last : List ℕ) (size li
         let one_less : count - j ≡ suc (count - (j + 1)) = omega arith in
         andThen-inv (entry (drop at p)) (λ a t e _. (a, entry_place p at a t b e)) (rw one_less at r)
 
-    pub spelling_stops : (stop : Stop) → got ≡ EntryStop stop → EntriesEndWith p first count left last (record { size = 0; link = 0 })
+    pub spelling_stops : (stop : Stop) → got ≡ Err stop → EntriesEndWith p first count left last (record { size = 0; link = 0 })
     unfolding SpeltSoFar
     spelling_stops stop q es past r =
         let x = u es past r in
         let y = entry_stands x.rest past x.reads in
         absurd (subst (LocatedIs p at) q w y.0 _ y.1)
 
-    pub spelling_goes_on : (e : EntryAt) → got ≡ Entry e → (last' : List ℕ) (size' : ℕ)
+    pub spelling_goes_on : (e : EntryAt) → got ≡ Ok e → (last' : List ℕ) (size' : ℕ)
         → Extended last size p e.shares e.remainder e.size last' size'
         → SpeltSoFar p first count left (j + 1) e.end last' size' e.link
     unfolding SpeltSoFar Extended links_after
@@ -150,7 +147,7 @@ module _ (p : List ℕ) (first count left j at : ℕ) (last : List ℕ) (size li
         let x = u es past r in
         let y = entry_stands x.rest past x.reads in
         let here : EntryHere p at e = (subst (LocatedIs p at) q w).here y.0 _ y.1 in
-        let z = row_behind p count j at past x.rest x.reads h (Entry e) here e refl in
+        let z = row_behind p count j at past x.rest x.reads h (Ok e) here e refl in
         record {
           rest = z.0;
           key = key_after x.key (entry_at p e);
@@ -162,7 +159,7 @@ module _ (p : List ℕ) (first count left j at : ℕ) (last : List ℕ) (size li
         }
 
 -- the link of a located entry stands within p
-module _ (p : List ℕ) (at : ℕ) (got : EntryRead) (w : LocatedIs p at got) (e : EntryAt) (q : got ≡ Entry e) where
+module _ (p : List ℕ) (at : ℕ) (got : Result EntryAt Stop) (w : LocatedIs p at got) (e : EntryAt) (q : got ≡ Ok e) where
   found : Located p at e
   found = subst (LocatedIs p at) q w
 
@@ -179,11 +176,11 @@ module _ (p : List ℕ) (at : ℕ) (got : EntryRead) (w : LocatedIs p at got) (e
   few_left = found.size
 
 -- ---- a page at a place
-module _ (p : List ℕ) (at : ℕ) (got : NumberRead) (w : NumberIs page_start p at got) where
-  pub page_end_lost : (last : List ℕ) (r : OwnEnd) (stop : Stop) → got ≡ NumberStop stop → PageEndsWith p at last r
+module _ (p : List ℕ) (at : ℕ) (got : Result (ℕ × ℕ) Stop) (w : NumberIs page_start p at got) where
+  pub page_end_lost : (last : List ℕ) (r : OwnEnd) (stop : Stop) → got ≡ Err stop → PageEndsWith p at last r
   page_end_lost last r stop q raw to reads = absurd (start_lost p at got w stop q raw to reads)
 
-  module _ (count first : ℕ) (q : got ≡ Number count first) (b : Bytes p) (last : List ℕ) (r : OwnEnd) where
+  module _ (count first : ℕ) (q : got ≡ Ok (count, first)) (b : Bytes p) (last : List ℕ) (r : OwnEnd) where
     -- of a page with entries, whose left link is not given
     pub entries_end : 0 < count → EntriesEndWith p first count 0 last r → PageEndsWith p at last r
     entries_end h v raw to reads =

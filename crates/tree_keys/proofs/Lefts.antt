@@ -1,4 +1,5 @@
 -- The left link of a page, by the bytes that end the page.
+use Rattle.std.specs.Prelude.{Result, Ok, Err}
 use Prim.Native.Nat.{ℕ, suc, ◌+◌, ◌-◌, ◌≤◌, ◌<◌}
 use mathlib.Core.Path.{◌≡◌, refl, sym, ap, subst, ◌∙◌}
 use mathlib.Core.Bool.{true}
@@ -19,8 +20,6 @@ use Rattle.page.proofs.Pages.{before_entries, before_left, before_remainder, bef
 use Rattle.page_reader.specs.Place.{Reads, PageHere, PageIs}
 use Rattle.page_reader.specs.declared.Stop.{Stop}
 use Rattle.page_reader.specs.declared.PageAt.{PageAt}
-use Rattle.page_reader.specs.declared.PageRead.{PageRead}
-use Rattle.page_reader.specs.declared.PageRead.TheVariants.{Page, PageStop}
 use Rattle.page_reader.proofs.Spelling.{reads_end}
 use Rattle.page_keys.proofs.Entries.{read_stop≢read}
 use Rattle.states.specs.Pages.{link_list, links_after}
@@ -163,14 +162,14 @@ module _ (p : List ℕ) (at end : ℕ) where
   }
 
 -- ---- a page that is read
-module _ (p : List ℕ) (at : ℕ) (got : PageRead) (w : PageIs p at got) where
-  pub left_not_read : (stop : Stop) → got ≡ PageStop stop → (end : ℕ) → LeftIs p at end 0
+module _ (p : List ℕ) (at : ℕ) (got : Result PageAt Stop) (w : PageIs p at got) where
+  pub left_not_read : (stop : Stop) → got ≡ Err stop → (end : ℕ) → LeftIs p at end 0
   left_not_read stop q end = record {
     within = λ z. absurd (omega arith);
     link = λ b raw r. absurd (read_stop≢read stop (sym (subst (PageIs p at) q w) ∙ r.reads));
   }
 
-  pub left_read : (pa : PageAt) → got ≡ Page pa → (end : ℕ) → LeftIs p at end pa.left
+  pub left_read : (pa : PageAt) → got ≡ Ok pa → (end : ℕ) → LeftIs p at end pa.left
   left_read pa q end =
       let here : PageHere p at pa = subst (PageIs p at) q w in
       record {

@@ -1,4 +1,5 @@
 -- The entries of a page, by the start of the page.
+use Rattle.std.specs.Prelude.{Result, Ok, Err}
 use Prim.Native.Nat.{ℕ, suc, ◌+◌, ◌-◌}
 use mathlib.Core.Path.{◌≡◌, refl, sym, ap, subst, ◌∙◌}
 use mathlib.Core.List.{List, [], ◌∷◌}
@@ -14,8 +15,6 @@ use Rattle.page.proofs.Readers.{read_sub, andThen-inv, times_spells}
 use Rattle.page.proofs.Pages.{before_entries, before_left, entry_spells}
 use Rattle.page_reader.specs.Place.{Reads, NumberIs, page_start}
 use Rattle.page_reader.specs.declared.Stop.{Stop}
-use Rattle.page_reader.specs.declared.NumberRead.{NumberRead}
-use Rattle.page_reader.specs.declared.NumberRead.TheVariants.{Number, NumberStop}
 use Rattle.page_reader.proofs.PagePlaces.{steps, reads_then, count_stopped}
 use Rattle.page_keys.proofs.Entries.{read_stop≢read}
 use Rattle.tree_keys.specs.Inner.{OwnFirst, PageFirst}
@@ -29,18 +28,18 @@ page_steps : (t : List ℕ) → page t ≡ and_then (page_start t) (λ n u. and_
 unfolding page
 page_steps t = steps before_entries (number array) (λ n u. and_then (times n entry u) with_left) t
 
-module _ (p : List ℕ) (at : ℕ) (got : NumberRead) (w : NumberIs page_start p at got) where
+module _ (p : List ℕ) (at : ℕ) (got : Result (ℕ × ℕ) Stop) (w : NumberIs page_start p at got) where
   -- no page is read there
-  pub start_lost : (stop : Stop) → got ≡ NumberStop stop → (raw : RawPage) (to : ℕ) → Reads page p at raw to → ⊥
+  pub start_lost : (stop : Stop) → got ≡ Err stop → (raw : RawPage) (to : ℕ) → Reads page p at raw to → ⊥
   start_lost stop q raw to r = read_stop≢read stop (sym (count_stopped p at got w stop q) ∙ r.reads)
 
-  pub first_not_there : (stop : Stop) → got ≡ NumberStop stop → PageFirst p at nowhere
+  pub first_not_there : (stop : Stop) → got ≡ Err stop → PageFirst p at nowhere
   first_not_there stop q = record {
     within = omega arith;
     remainder = λ raw to r e es f. absurd (start_lost stop q raw to r);
   }
 
-  module _ (count first : ℕ) (q : got ≡ Number count first) (b : Bytes p) where
+  module _ (count first : ℕ) (q : got ≡ Ok (count, first)) (b : Bytes p) where
     -- a page's entries are read from the place of the first on
     pub page_row : (raw : RawPage) (to : ℕ) → Reads page p at raw to → (past : ℕ) × (times count entry (drop first p) ≡ read raw.entries (drop past p))
     page_row raw to r =

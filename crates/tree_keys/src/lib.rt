@@ -12,7 +12,7 @@ use bytestring::write_bytes;
 use limits::{DEEPEST, LONGEST_KEY};
 use links::find_word;
 use page_keys::extend_key;
-use page_reader::{EntryRead, NumberRead, PageRead, locate_entry, read_page, read_page_start};
+use page_reader::{locate_entry, read_page, read_page_start};
 use value::DIGEST;
 
 // A page's word holds its place below this number.
@@ -91,8 +91,8 @@ fn read_left(sequence: &[u8], at: usize) -> usize
     ensures { (end : ℕ) → LeftIs sequence.now at end result }
 {
     match read_page(sequence, at) {
-        PageRead::Page(p) => p.left,
-        PageRead::PageStop(_) => 0,
+        Ok(p) => p.left,
+        Err(_) => 0,
     }
 }
 
@@ -113,11 +113,11 @@ fn own_first(sequence: &[u8], first: usize, count: usize) -> KeyAt
         return KeyAt { place: 0, size: 0 };
     }
     match locate_entry(sequence, first) {
-        EntryRead::Entry(e) => KeyAt {
+        Ok(e) => KeyAt {
             place: e.remainder,
             size: e.size,
         },
-        EntryRead::EntryStop(_) => KeyAt { place: 0, size: 0 },
+        Err(_) => KeyAt { place: 0, size: 0 },
     }
 }
 
@@ -126,8 +126,8 @@ fn page_first(sequence: &[u8], at: usize) -> KeyAt
     ensures { PageFirst sequence.now at result }
 {
     match read_page_start(sequence, at) {
-        NumberRead::Number(count, first) => own_first(sequence, first, count),
-        NumberRead::NumberStop(_) => KeyAt { place: 0, size: 0 },
+        Ok((count, first)) => own_first(sequence, first, count),
+        Err(_) => KeyAt { place: 0, size: 0 },
     }
 }
 
@@ -196,12 +196,12 @@ fn spell_last(sequence: &[u8], first: usize, count: usize, left: usize, last: &m
     let mut j = 0;
     while j < count {
         match locate_entry(sequence, at) {
-            EntryRead::Entry(e) => {
+            Ok(e) => {
                 size = extend_key(last, size, sequence, e.shares, e.remainder, e.size);
                 link = e.link;
                 at = e.end;
             }
-            EntryRead::EntryStop(_) => {
+            Err(_) => {
                 return OwnEnd { size: 0, link: 0 };
             }
         }
@@ -217,14 +217,14 @@ fn walk_last(sequence: &[u8], at: usize, last: &mut [u8]) -> OwnEnd
     ensures says { PageEndsWith sequence.now at last.new result }
 {
     match read_page_start(sequence, at) {
-        NumberRead::Number(count, first) => {
+        Ok((count, first)) => {
             if 0 < count {
                 return spell_last(sequence, first, count, 0, last);
             }
             let left = read_left(sequence, at);
             spell_last(sequence, first, count, left, last)
         }
-        NumberRead::NumberStop(_) => OwnEnd { size: 0, link: 0 },
+        Err(_) => OwnEnd { size: 0, link: 0 },
     }
 }
 
@@ -270,8 +270,8 @@ pub fn last_key(
 // Whether the page at a place has many entries.
 fn is_long(sequence: &[u8], at: usize) -> bool {
     match read_page_start(sequence, at) {
-        NumberRead::Number(count, _) => LONG < count,
-        NumberRead::NumberStop(_) => false,
+        Ok((count, _)) => LONG < count,
+        Err(_) => false,
     }
 }
 

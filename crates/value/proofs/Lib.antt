@@ -1,4 +1,3 @@
 pub mod Comparing
-pub mod Standing
 pub mod Laws
 mod Numbers

@@ -1,31 +1,20 @@
 // Writes the digests of the FIPS 180-4 messages and the published layer examples, a line for each.
 #![tactic(auto)]
 
-use answer::Answer;
 use std::io;
 
-fn wide(x: u8) -> u64 {
-    x as u64
-}
-
-fn print_bytes(rt: &impl Print, bytes: &[u8; 32]) -> io::Result<()> {
-    let mut i = 0;
-    while i < 32 {
-        let byte = wide(bytes[i]);
+fn print_digest(rt: &impl Print, message: &[u8]) -> io::Result<()> {
+    let mut digest = [0u8; 32];
+    // A message that is too long has zeros for its digest.
+    let _ = sha256::digest(message, &mut digest);
+    for byte in &digest {
         print!(rt; "{byte:02x}")?;
-        i += 1;
     }
     println!(rt; "")
 }
 
-fn print_digest(rt: &impl Print, message: &[u8]) -> io::Result<()> {
-    let mut digest = [0u8; 32];
-    sha256::digest(message, &mut digest);
-    print_bytes(rt, &digest)
-}
-
 fn print_layer(rt: &impl Print, text: &[u8]) -> io::Result<()> {
-    if let Answer::Done(layer) = key_calls::layer(text) {
+    if let Ok(layer) = key_calls::layer(text) {
         println!(rt; "{layer}")?;
     }
     Ok(())

@@ -2,7 +2,7 @@
 // crates above and no public calls.
 #![tactic(auto)]
 
-ghost use Rattle.std.specs.Prelude.{◌≡◌, ◌^◌, ◌≤◌, ◌<◌};
+ghost use Rattle.std.specs.Prelude.{◌≡◌, ◌/◌, ◌%◌, ◌^◌, ◌≤◌, ◌<◌};
 ghost use Rattle.word.specs.Word.{page_in, entry_in, layer_in, from_second, is_first, register_in, second_word, RecordWord, link_in, above_in, end_in, from_in, records_in, below_in, SpanWord, size_in, NoteWord, place_in, older_in};
 
 // A place in a register is below this.
@@ -20,8 +20,24 @@ const SECOND: u64 = 0x1000_0000_0000_0000;
 // A count in the second word of a chain is below this.
 const COUNT: u64 = 0x2000;
 
+// The counts of records and of chains in that word stand from these on.
+const RECORDS: u64 = PLACE * COUNT;
+
+const CHAINS: u64 = RECORDS * COUNT;
+
+// The length in a note is below this.
+const LENGTH: u64 = SECOND / PLACES;
+
 // The place of a link's digest in a table is below this.
 const LINK: u64 = 0x1_0000_0000;
+
+// A field of a word: it counts in steps of FROM, and is below BELOW. Both are constants, so that no division is left.
+fn field<const FROM: u64, const BELOW: u64>(word: u64) -> usize
+    requires { (0 < FROM) × (0 < BELOW) }
+    ensures { result ≡ word / FROM % BELOW }
+{
+    (word / FROM % BELOW) as usize
+}
 
 // The word of a record of the first register, or the first word of a chain: two places and a third number.
 pub fn record_word(page: usize, entry: usize, third: usize) -> u64
@@ -42,14 +58,14 @@ pub fn page_in(word: u64) -> usize
 pub fn entry_in(word: u64) -> usize
     ensures { result ≡ entry_in word }
 {
-    (word / PLACE % PLACE) as usize
+    field::<PLACE, PLACE>(word)
 }
 
 // The layer of a record's key, or at first the depth of its page.
 pub fn layer_in(word: u64) -> usize
     ensures { result ≡ layer_in word }
 {
-    (word / PLACES % THIRD) as usize
+    field::<PLACES, THIRD>(word)
 }
 
 // The word of the first register with this layer.
@@ -103,36 +119,36 @@ pub fn span_word(end: usize, from: usize, records: usize, below: usize) -> u64
 {
     end as u64
         + from as u64 % COUNT * PLACE
-        + records as u64 % COUNT * (PLACE * COUNT)
-        + below as u64 % COUNT * (PLACE * COUNT * COUNT)
+        + records as u64 % COUNT * RECORDS
+        + below as u64 % COUNT * CHAINS
 }
 
 // Where a chain's page with entries ends, by its second word.
 pub fn end_in(word: u64) -> usize
     ensures { result ≡ end_in word }
 {
-    (word % PLACE) as usize
+    page_in(word)
 }
 
 // How many records come before those of a chain.
 pub fn from_in(word: u64) -> usize
     ensures { result ≡ from_in word }
 {
-    (word / PLACE % COUNT) as usize
+    field::<PLACE, COUNT>(word)
 }
 
 // How many records a chain has, with those below it.
 pub fn records_in(word: u64) -> usize
     ensures { result ≡ records_in word }
 {
-    (word / (PLACE * COUNT) % COUNT) as usize
+    field::<RECORDS, COUNT>(word)
 }
 
 // How many chains are below a chain.
 pub fn below_in(word: u64) -> usize
     ensures { result ≡ below_in word }
 {
-    (word / (PLACE * COUNT * COUNT) % COUNT) as usize
+    field::<CHAINS, COUNT>(word)
 }
 
 // The note on the key of a word, of this length, whose entry ends at next.
@@ -147,7 +163,7 @@ pub fn note_word(word: u64, next: usize, size: usize) -> u64
 pub fn size_in(note: u64) -> usize
     ensures { result ≡ size_in note }
 {
-    (note / PLACES % (SECOND / PLACES)) as usize
+    field::<PLACES, LENGTH>(note)
 }
 
 // A link in a table: the place of its digest, and the number of the link before it with the same first bits.

@@ -1,4 +1,5 @@
 -- The table of a row's first records, and the output that it stands in.
+use Rattle.std.specs.Prelude.{Ok, Err}
 use Prim.Native.Nat.{ℕ, ◌-◌, ◌≤◌, min}
 use mathlib.Core.Path.{◌≡◌, sym, ap, ◌∙◌}
 use mathlib.Core.Bool.{true, cond, ◌&&◌}
@@ -13,7 +14,6 @@ use Rattle.limits.specs.Limits.{longest}
 use Rattle.bytestring.proofs.Lending.{lent, back, back_is}
 use Rattle.bytestring.specs.Bytes.{zeros}
 use Rattle.answer.specs.declared.Refusal.TheVariants.{NoRoom}
-use Rattle.answer.specs.declared.Answer.TheVariants.{Done, Refused}
 use Rattle.tree.specs.Tree.{Page, top_layer, tree_of}
 use Rattle.tree.specs.Record.{Record, spelt}
 use Rattle.tree.specs.Table.{bytes_of_page, table, tree_of_set}
@@ -113,7 +113,7 @@ module _ {t : Page Record (List ℕ)} {o : List ℕ} {k : ℕ} {ys : List ℕ} {
     take_is : take r.len (ys ++ drop k o) ≡ table (spelt t)
     take_is = rw whole_is (take_at (table (spelt t)) behind r.len (sym (table_done w.written e).size))
 
-  pub answer_is : cond r.room (Done r.len) (Refused NoRoom) ≡ table_answer (table (spelt t)) (length o)
+  pub answer_is : cond r.room (Ok r.len) (Err NoRoom) ≡ table_answer (table (spelt t)) (length o)
   unfolding table_answer
   answer_is = cases r.room (λ e. rw (← fit_is, e, (table_done w.written e).size)) (λ e. rw (← fit_is, e))
 

@@ -1,10 +1,9 @@
 -- What the writer of a whole table answers and writes.
-use Rattle.std.specs.Prelude.{ℕ, ◌-◌, Bool, cond, ◌&&◌, List, ◌++◌, length, leb}
+use Rattle.answer.specs.declared.Refusal.{Refusal}
+use Rattle.std.specs.Prelude.{ℕ, ◌-◌, Bool, cond, ◌&&◌, List, ◌++◌, length, leb, Result, Ok, Err}
 use Rattle.limits.specs.Limits.{longest}
 use Rattle.bytestring.specs.Bytes.{zeros}
 use Rattle.answer.specs.declared.Refusal.TheVariants.{NoRoom}
-use Rattle.answer.specs.declared.Answer.{Answer}
-use Rattle.answer.specs.declared.Answer.TheVariants.{Done, Refused}
 use Rattle.tree.specs.Record.{Record}
 use Rattle.tree.specs.Table.{table_of}
 use Rattle.head.specs.declared.Head.{Head}
@@ -16,8 +15,8 @@ unfoldable pub fits_output : List ℕ → ℕ → Bool
 fits_output t room = leb (length t) room && leb (length t) longest
 
 -- The table's length, or number 13.
-unfoldable pub table_answer : List ℕ → ℕ → Answer
-table_answer t room = cond (fits_output t room) (Done (length t)) (Refused NoRoom)
+unfoldable pub table_answer : List ℕ → ℕ → Result ℕ Refusal
+table_answer t room = cond (fits_output t room) (Ok (length t)) (Err NoRoom)
 
 -- The table and zeros after it, or zeros alone.
 unfoldable pub table_output : List ℕ → ℕ → List ℕ

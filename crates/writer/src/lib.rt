@@ -17,7 +17,7 @@ ghost use Rattle.writer.specs.Output.{table_answer, table_output, table_headed};
 
 use crate::pages::{Wrote, write_page};
 use crate::refusal::refuse_headed;
-use answer::{Answer, Refusal};
+use answer::Refusal;
 use bytestring::{clear, same_bytes};
 use head::{Head, Headed};
 use labels::page_digest;
@@ -35,17 +35,17 @@ fn used(n: usize) -> usize
 }
 
 // Zeros after the table that stands at the front of the output; where there was no room for it, number 13 and zeros.
-fn finish(out: &mut [u8], room: bool, len: usize) -> Answer
+fn finish(out: &mut [u8], room: bool, len: usize) -> Result<u32, Refusal>
     requires { room ≡ true → (len ≤ length out.old) × (len ≤ longest) }
-    ensures answer { result ≡ cond room (Answer.Done len) (Answer.Refused Refusal.NoRoom) }
+    ensures answer { result ≡ cond room (Ok len) (Err Refusal.NoRoom) }
     ensures output { out.new ≡ cond room (take len out.old ++ zeros (length out.old - len)) (zeros (length out.old)) }
 {
     if room {
         clear(&mut out[len..]);
-        return Answer::Done(len as u32);
+        return Ok(len as u32);
     }
     clear(out);
-    Answer::Refused(Refusal::NoRoom)
+    Err(Refusal::NoRoom)
 }
 
 // The pages of the first n records of a row, from the root at this layer down.
@@ -91,7 +91,7 @@ pub fn write_table(
     row: &[u64],
     n: usize,
     out: &mut [u8],
-) -> Answer
+) -> Result<u32, Refusal>
     requires { Row s.now u.now row.now n × Labelled s.now first_chains.now first_count × Labelled u.now second_chains.now second_count }
     ensures answer { result ≡ table_answer (table_of (records_of s.now u.now row.now n)) (length out.old) }
     ensures output { out.new ≡ table_output (table_of (records_of s.now u.now row.now n)) (length out.old) }

@@ -1,4 +1,6 @@
 -- The writing calls on one register: from what their parts say to the outcome.
+use Rattle.answer.specs.declared.Refusal.{Refusal}
+use Rattle.std.specs.Prelude.{Result, Ok, Err, Option, Some, None}
 use Prim.Native.Nat.{ℕ, ◌+◌, ◌-◌, ◌≤◌, ◌<◌}
 use mathlib.Core.Path.{◌≡◌, refl, sym, ap, subst, ◌∙◌}
 use mathlib.Core.Bool.{Bool, true, false}
@@ -11,7 +13,6 @@ use lib.Seq.{take_all, get_or-take, get_or-drop}
 use Rattle.limits.specs.Limits.{most}
 use Rattle.bytestring.proofs.Tools.{All, all_append, cond-inv, part_taken}
 use Rattle.answer.specs.declared.Refusal.TheVariants.{TooManyRecords, KeyAbsent}
-use Rattle.answer.specs.declared.Answer.{Answer}
 use Rattle.value.specs.Value.{value_length, is_value}
 use Rattle.value.proofs.Laws.{value_length_lem}
 use Rattle.key.specs.Key.{lawful, less}
@@ -34,10 +35,6 @@ use Rattle.row_words.specs.RowWords.{LeftOut, Single}
 use Rattle.choice.specs.Choice.{choice_of, weave, woven_of, RowOf, ChooseSays}
 use Rattle.writing.specs.Tests.{record_tests, range_tests}
 use Rattle.writing.specs.Writing.{written, written_without, moved_to, set_outcome, records_from}
-use Rattle.choice.specs.declared.choose.Chosen.{Chosen}
-use Rattle.choice.specs.declared.choose.Chosen.TheVariants.{Count, TooMany}
-use Rattle.row.specs.declared.search.Searched.{Searched}
-use Rattle.row.specs.declared.search.Searched.TheVariants.{At, Absent}
 use Rattle.choice.proofs.Weaving.{weave_put, remove_at, find_at}
 use Rattle.choice.proofs.Choosing.{all_first, first_at, all_drop, records_slice, records_front}
 use Rattle.reading.proofs.Verdicts.{Accepting, t, sorted, short, row_first, records_first, accepted_few}
@@ -56,7 +53,7 @@ module _ {s u row : List ℕ} {n : ℕ} {rs : List Record} (w : RowOf s u row n 
   few : length rs ≤ most
   few = omega (arith, ap length w.records, records_length s u row n w.whole.room, w.whole.few)
 
-  pub row_written : (answer : Answer) (out : List ℕ)
+  pub row_written : (answer : Result ℕ Refusal) (out : List ℕ)
       → (answer ≡ table_answer (table_of (records_of s u row n)) room) × (out ≡ table_output (table_of (records_of s u row n)) room)
       → Says (written rs room) room answer out
   row_written answer out says =
@@ -69,15 +66,15 @@ module _ {s u row : List ℕ} {n : ℕ} {rs : List Record} (w : RowOf s u row n 
   row_moved lent given out gives =
       let w' = moved_gives rs room few lent in (gives.0 ∙ rw w.records w'.0, gives.1 ∙ rw w.records w'.1)
 
-module _ (s u row : List ℕ) (rs : List Record) (c : Chosen) (w : ChooseSays s u rs c row) where
-  pub chosen_row : {n : ℕ} → c ≡ Count n → RowOf s u row n rs
-  chosen_row e = subst (λ (x : Chosen). ChooseSays s u rs x row) e w
+module _ (s u row : List ℕ) (rs : List Record) (c : Option ℕ) (w : ChooseSays s u rs c row) where
+  pub chosen_row : {n : ℕ} → c ≡ Some n → RowOf s u row n rs
+  chosen_row e = subst (λ (x : Option ℕ). ChooseSays s u rs x row) e w
 
-  pub chosen_full : (room : ℕ) → c ≡ TooMany → written rs room ≡ refused_write TooManyRecords
-  chosen_full room e = written_many rs room (subst (λ (x : Chosen). ChooseSays s u rs x row) e w)
+  pub chosen_full : (room : ℕ) → c ≡ None → written rs room ≡ refused_write TooManyRecords
+  chosen_full room e = written_many rs room (subst (λ (x : Option ℕ). ChooseSays s u rs x row) e w)
 
-  pub chosen_many : (room : ℕ) → c ≡ TooMany → moved_to rs room ≡ stopped TooManyRecords
-  chosen_many room e = moved_many rs room (subst (λ (x : Chosen). ChooseSays s u rs x row) e w)
+  pub chosen_many : (room : ℕ) → c ≡ None → moved_to rs room ≡ stopped TooManyRecords
+  chosen_many room e = moved_many rs room (subst (λ (x : Option ℕ). ChooseSays s u rs x row) e w)
 
 -- ---- a key that is not found
 places_length : (t : SpeltTree) → length (places 0 t) ≡ length (records t)
@@ -101,9 +98,9 @@ module _ (k value v : List ℕ) (q : due (record_tests k value) ≡ none) (copie
   copied_value = rw same_value (tested_value k value q)
 
 -- ---- a record left out
-module _ {s index : List ℕ} {count : ℕ} (a : Accepting s index count) (k : List ℕ) (r : Searched) (v : SearchSays s index count k r) where
-  module _ (position place : ℕ) (e : r ≡ At position place) where
-    found : PositionIs k (records (t a)) (At position place)
+module _ {s index : List ℕ} {count : ℕ} (a : Accepting s index count) (k : List ℕ) (r : Result (ℕ × ℕ) ℕ) (v : SearchSays s index count k r) where
+  module _ (position place : ℕ) (e : r ≡ Ok (position, place)) where
+    found : PositionIs k (records (t a)) (Ok (position, place))
     found = position_is a.given k r v position place e
 
     inside : position < count
@@ -144,7 +141,7 @@ module _ {s index : List ℕ} {count : ℕ} (a : Accepting s index count) (k : L
     unfolding written_without is_there
     found_without out = rw (records_in_lem a.given, found_value.1)
 
-  module _ (position : ℕ) (e : r ≡ Absent position) where
+  module _ (position : ℕ) (e : r ≡ Err position) where
     pub absent : find k (records (t a)) ≡ none
     absent =
         let nowhere = sym (searched a.given k r v).0 ∙ ap place_found e in
@@ -175,12 +172,12 @@ module _ {s index : List ℕ} {count : ℕ} (a : Accepting s index count) (h : H
         ∙ set_written g s h k value out (t a) a.given.judged own q
 
   -- ---- remove
-  module _ (k : List ℕ) (r : Searched) (v : SearchSays s index count k r) where
-    pub remove_done : (position place : ℕ) → r ≡ At position place → (out : ℕ) → lawful k ≡ true
+  module _ (k : List ℕ) (r : Result (ℕ × ℕ) ℕ) (v : SearchSays s index count k r) where
+    pub remove_done : (position place : ℕ) → r ≡ Ok (position, place) → (out : ℕ) → lawful k ≡ true
         → moved_to (remove k (records (t a))) out ≡ remove_outcome s h k out
     remove_done position place e out l = remove_written s h k out (t a) a.given.judged own l _ (found_value a k r v position place e).1
 
-    pub absent_done : (out : ℕ) → lawful k ≡ true → (position : ℕ) → r ≡ Absent position → remove_outcome s h k out ≡ stopped KeyAbsent
+    pub absent_done : (out : ℕ) → lawful k ≡ true → (position : ℕ) → r ≡ Err position → remove_outcome s h k out ≡ stopped KeyAbsent
     absent_done out l position e = remove_absent s h k out (t a) a.given.judged own l (absent a k r v position e)
 
 -- ---- run

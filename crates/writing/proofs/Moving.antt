@@ -1,4 +1,5 @@
 -- What the calls that are lent a head give back and write: their tests in order, and the table and head of their result.
+use Rattle.std.specs.Prelude.{Err}
 use Prim.Native.Nat.{ℕ, ◌≤◌, ◌<◌}
 use mathlib.Core.Path.{◌≡◌, refl, sym, ap, ◌∙◌}
 use mathlib.Core.Bool.{Bool, true, ◌&&◌}
@@ -15,7 +16,6 @@ use Rattle.bytestring.proofs.Tools.{cond-inv}
 use Rattle.fips180.specs.Hash.{sha256}
 use Rattle.answer.specs.declared.Refusal.{Refusal}
 use Rattle.answer.specs.declared.Refusal.TheVariants.{TooManyRecords, KeyAbsent, UntrueHead}
-use Rattle.answer.specs.declared.Answer.TheVariants.{Refused}
 use Rattle.key.specs.Key.{lawful, slash_answer}
 use Rattle.key.proofs.SlashLaws.{slash_refused}
 use Rattle.tree.specs.Record.{Record, records}
@@ -43,7 +43,7 @@ abbrev pub Gives : Moved → Head → ℕ → Headed → List ℕ → Type 0
 Gives o lent room given out = (given ≡ headed o lent) × (out ≡ moved_output o room)
 
 module _ (lent : Head) (room : ℕ) (given : Headed) (out : List ℕ) where
-  pub gives_refusal : {o : Moved} {r : Refusal} → o ≡ stopped r → (given ≡ record { answer = Refused r; head = lent }) × (out ≡ zeros room)
+  pub gives_refusal : {o : Moved} {r : Refusal} → o ≡ stopped r → (given ≡ record { answer = Err r; head = lent }) × (out ≡ zeros room)
       → Gives o lent room given out
   unfolding moved_answer moved_output moved_head
   gives_refusal e says = (says.0 ∙ rw e, says.1 ∙ rw e)
@@ -116,7 +116,7 @@ module _ (g : Bool) (s : List ℕ) (h : Head) (k v : List ℕ) (room : ℕ) wher
 
 -- ---- remove
 module _ (s : List ℕ) (h : Head) (k : List ℕ) (room : ℕ) (t : SpeltTree) (e : judge s ≡ accepted t) (own : TrueOf s h) where
-  pub remove_unlawful : {r : Refusal} → slash_answer k ≡ Refused r → remove_outcome s h k room ≡ stopped r
+  pub remove_unlawful : {r : Refusal} → slash_answer k ≡ Err r → remove_outcome s h k room ≡ stopped r
   unfolding remove_outcome remove_plan due
   remove_unlawful q = let w = slash_refused k _ q in plan_stopped h (remove_plan k) room s t e own (rw (w.0, w.1))
 

@@ -1,4 +1,5 @@
 -- One word set in the index of an accepted register: the records are those woven with its own.
+use Rattle.std.specs.Prelude.{Result, Ok, Err}
 use Prim.Native.Nat.{ℕ, ◌+◌, ◌^◌, ◌≤◌, ◌<◌}
 use mathlib.Core.Path.{◌≡◌, sym, ap, subst, ◌∙◌}
 use mathlib.Core.Bool.{Bool}
@@ -21,8 +22,6 @@ use Rattle.row.specs.Row.{nothing, source_of, record_of_word, Row, records_of}
 use Rattle.row.specs.Fetch.{Fetched, FetchSays}
 use Rattle.row.specs.Search.{PositionIs, SearchSays}
 use Rattle.row.specs.declared.fetch.FetchedAt.{FetchedAt}
-use Rattle.row.specs.declared.search.Searched.{Searched}
-use Rattle.row.specs.declared.search.Searched.TheVariants.{At, Absent}
 use Rattle.row.proofs.Rows.{source_first, source_second, word_record, word_small, first_record, records_length}
 use Rattle.row.proofs.Memories.{no_note}
 use Rattle.row.proofs.Counting.{front_few}
@@ -47,7 +46,7 @@ single_source {page} {w} one s =
 
 -- so that it may be set, where its key was searched for
 pub single_to_set : {s index : List ℕ} {n : ℕ} → Accepting s index n → RoomForMore s (length index) → {k v page : List ℕ} {w : ℕ} → Single k v page w
-    → length page < 2 ^ 24 → {found : Searched} → SearchSays s index n k found → ToSet s page index n found w
+    → length page < 2 ^ 24 → {found : Result (ℕ × ℕ) ℕ} → SearchSays s index n k found → ToSet s page index n found w
 single_to_set {s} {n} a more one short searched = record {
   accepted = a.given;
   room = λ few. omega (arith, more n few (accepted_long a.bytes a.given));
@@ -57,7 +56,7 @@ single_to_set {s} {n} a more one short searched = record {
   searched = rw (one.spells s) searched;
 }
 
-module _ {s u index : List ℕ} {n : ℕ} {found : Searched} {word : ℕ} (b : Bytes s) (p : ToSet s u index n found word) where
+module _ {s u index : List ℕ} {n : ℕ} {found : Result (ℕ × ℕ) ℕ} {word : ℕ} (b : Bytes s) (p : ToSet s u index n found word) where
   abbrev a : Accepting s index n
   a = record { bytes = b; given = p.accepted }
 
@@ -71,8 +70,8 @@ module _ {s u index : List ℕ} {n : ℕ} {found : Searched} {word : ℕ} (b : B
   row = row_first a u p.short
 
   -- ---- where the key was found
-  module _ (position place : ℕ) (e : found ≡ At position place) where
-    at : PositionIs key rs (At position place)
+  module _ (position place : ℕ) (e : found ≡ Ok (position, place)) where
+    at : PositionIs key rs (Ok (position, place))
     at = position_is p.accepted key found p.searched position place e
 
     within : position < n
@@ -116,8 +115,8 @@ module _ {s u index : List ℕ} {n : ℕ} {found : Searched} {word : ℕ} (b : B
           replaced_woven row g p.stands position (rw all (sorted a)) within (rw all at.1) place other.value w old_value new_value chosen
 
   -- ---- where it was not
-  module _ (position : ℕ) (e : found ≡ Absent position) where
-    counts : PositionIs key (records_of s u index n) (Absent position)
+  module _ (position : ℕ) (e : found ≡ Err position) where
+    counts : PositionIs key (records_of s u index n) (Err position)
     counts = rw (records_first a u) (subst (PositionIs key rs) e (searched p.accepted key found p.searched).1)
 
     pub absent_within : position ≤ n
@@ -129,11 +128,3 @@ module _ {s u index : List ℕ} {n : ℕ} {found : Searched} {word : ℕ} (b : B
     pub absent_set : (g : Bool) (index' : List ℕ) → n < most → length index' ≡ length index → Inserted index n position word index'
         → RowOf s u index' (n + 1) (woven_of g s u index n (word ∷ []) 1)
     absent_set g index' few same = inserted_woven row g p.stands position counts.0 counts.1 index' few (omega (arith, p.room few))
-
--- ---- room for one record more
--- a short register has at most 255
-pub more_short : (s : List ℕ) (words : ℕ) → length s ≤ 13515 → 256 ≤ words → RoomForMore s words
-more_short s words h i k few long = omega arith
-
-pub more_long : (s : List ℕ) (words : ℕ) → 4096 ≤ words → RoomForMore s words
-more_long s words i k few long = omega arith

@@ -1,4 +1,5 @@
 -- The tests of a call's arguments in their order, the table of a result, and what run answers and writes.
+use Rattle.std.specs.Prelude.{Result, Ok, Err}
 use Prim.Native.Nat.{ℕ, ◌≤◌, ◌<◌}
 use mathlib.Core.Path.{◌≡◌, refl, ◌∙◌}
 use mathlib.Core.Bool.{Bool, true, false, ◌&&◌}
@@ -13,8 +14,6 @@ use Rattle.limits.specs.Limits.{longest, most}
 use Rattle.bytestring.specs.Bytes.{zeros}
 use Rattle.answer.specs.declared.Refusal.{Refusal}
 use Rattle.answer.specs.declared.Refusal.TheVariants.{TooManyRecords, UnlawfulKey}
-use Rattle.answer.specs.declared.Answer.{Answer}
-use Rattle.answer.specs.declared.Answer.TheVariants.{Done, Refused}
 use Rattle.key.specs.Key.{lawful, slash_answer}
 use Rattle.key.proofs.SlashLaws.{slash_refused}
 use Rattle.value.specs.Value.{is_codec, is_value}
@@ -29,41 +28,41 @@ use Rattle.writing.specs.Tests.{range_tests, record_tests, answer_due}
 use Rattle.writing.specs.Writing.{written}
 
 -- ---- answer and output
-abbrev pub Says : Outcome → ℕ → Answer → List ℕ → Type 0
+abbrev pub Says : Outcome → ℕ → Result ℕ Refusal → List ℕ → Type 0
 Says o room answer out = (answer ≡ answer_of o) × (out ≡ output_of o room)
 
-pub refuses : {o : Outcome} {r : Refusal} (room : ℕ) (answer : Answer) (out : List ℕ) → o ≡ stopped r → (answer ≡ Refused r) × (out ≡ zeros room)
+pub refuses : {o : Outcome} {r : Refusal} (room : ℕ) (answer : Result ℕ Refusal) (out : List ℕ) → o ≡ stopped r → (answer ≡ Err r) × (out ≡ zeros room)
     → Says o room answer out
 unfolding answer_of output_of
 refuses room answer out e says = (says.0 ∙ rw e, says.1 ∙ rw e)
 
-pub says_same : {o p : Outcome} (room : ℕ) (answer : Answer) (out : List ℕ) → o ≡ p → Says o room answer out → Says p room answer out
+pub says_same : {o p : Outcome} (room : ℕ) (answer : Result ℕ Refusal) (out : List ℕ) → o ≡ p → Says o room answer out → Says p room answer out
 says_same room answer out e says = rw (← e) says
 
 -- ---- the first test that fails decides
 module _ (ts : List Test) where
-  pub test_holds : (r : Refusal) {b : Bool} {x : Answer} → b ≡ true → x ≡ answer_due (due ts) → x ≡ answer_due (due ((r, b) ∷ ts))
+  pub test_holds : (r : Refusal) {b : Bool} {x : Result ℕ Refusal} → b ≡ true → x ≡ answer_due (due ts) → x ≡ answer_due (due ((r, b) ∷ ts))
   unfolding due
   test_holds r e h = rw e h
 
-  pub test_fails : (r : Refusal) {b : Bool} → b ≡ false → Refused r ≡ answer_due (due ((r, b) ∷ ts))
+  pub test_fails : (r : Refusal) {b : Bool} → b ≡ false → Err r ≡ answer_due (due ((r, b) ∷ ts))
   unfolding due answer_due
   test_fails r e = rw e
 
-  pub unlawful_fails : (k : List ℕ) {r : Refusal} → slash_answer k ≡ Refused r → Refused r ≡ answer_due (due ((UnlawfulKey, lawful k) ∷ ts))
+  pub unlawful_fails : (k : List ℕ) {r : Refusal} → slash_answer k ≡ Err r → Err r ≡ answer_due (due ((UnlawfulKey, lawful k) ∷ ts))
   unfolding due answer_due
   unlawful_fails k q = let w = slash_refused k _ q in rw (w.0, w.1)
 
-pub none_due : Done 0 ≡ answer_due (due [])
+pub none_due : Ok 0 ≡ answer_due (due [])
 unfolding due answer_due
 none_due = refl
 
-pub due_refused : (o : Option Refusal) {x : Answer} {r : Refusal} → x ≡ answer_due o → x ≡ Refused r → o ≡ some r
+pub due_refused : (o : Option Refusal) {x : Result ℕ Refusal} {r : Refusal} → x ≡ answer_due o → x ≡ Err r → o ≡ some r
 unfolding answer_due
 due_refused none e h = let z : ◌≡◌ {A = ℕ} 0 1 = cc in absurd (omega arith)
 due_refused (some q) e h = cc
 
-pub due_done : (o : Option Refusal) {x : Answer} {n : ℕ} → x ≡ answer_due o → x ≡ Done n → o ≡ none
+pub due_done : (o : Option Refusal) {x : Result ℕ Refusal} {n : ℕ} → x ≡ answer_due o → x ≡ Ok n → o ≡ none
 unfolding answer_due
 due_done none e h = refl
 due_done (some q) e h = let z : ◌≡◌ {A = ℕ} 0 1 = cc in absurd (omega arith)

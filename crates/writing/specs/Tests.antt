@@ -1,11 +1,9 @@
 -- The tests of a call's own arguments, which come after the verdict on its register. Contracts inside this crate cite it, and no public
 -- contract does.
-use Rattle.std.specs.Prelude.{ℕ, not, List, [], ◌∷◌}
+use Rattle.std.specs.Prelude.{ℕ, not, List, [], ◌∷◌, Result, Ok, Err}
 use Rattle.std.proofs.Math.Option.{Option, none, some}
 use Rattle.answer.specs.declared.Refusal.{Refusal}
 use Rattle.answer.specs.declared.Refusal.TheVariants.{UnlawfulKey, WrongValue, FirstAfterLast}
-use Rattle.answer.specs.declared.Answer.{Answer}
-use Rattle.answer.specs.declared.Answer.TheVariants.{Done, Refused}
 use Rattle.key.specs.Key.{lawful, less}
 use Rattle.value.specs.Value.{is_value}
 use Rattle.tree.specs.Judge.{Test}
@@ -19,6 +17,6 @@ abbrev pub record_tests : List ℕ → List ℕ → List Test
 record_tests k v = (UnlawfulKey, lawful k) ∷ (WrongValue, is_value v) ∷ []
 
 -- A refusal that is due is answered by its number, and none by 0.
-unfoldable pub answer_due : Option Refusal → Answer
-answer_due none = Done 0
-answer_due (some r) = Refused r
+unfoldable pub answer_due : Option Refusal → Result ℕ Refusal
+answer_due none = Ok 0
+answer_due (some r) = Err r

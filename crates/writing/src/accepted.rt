@@ -12,9 +12,8 @@ ghost use Rattle.writing.specs.Writing.{written, records_from, written_without};
 ghost use Rattle.writing.specs.Setting.{RoomForMore};
 
 use crate::set::set_word;
-use answer::{Answer, Refusal};
-use choice::choose::Chosen;
-use row::search::{Searched, search};
+use answer::Refusal;
+use row::search::search;
 use row_words::{leave_out, single};
 use value::Value;
 use writer::refusal::refuse;
@@ -31,7 +30,7 @@ pub fn write_range(
     low: usize,
     high: usize,
     out: &mut [u8],
-) -> Answer
+) -> Result<u32, Refusal>
     requires { AcceptedIndex register.now index.now count × ChainRow register.now chains.now chain_count × (low ≤ high) × (high ≤ count) }
     ensures answer { result ≡ answer_of (written (records_from low high (accepted_records (judge register.now))) (length out.old)) }
     ensures output { out.new ≡ output_of (written (records_from low high (accepted_records (judge register.now))) (length out.old)) (length out.old) }
@@ -57,7 +56,7 @@ pub fn put_record(
     key: &[u8],
     value: Value,
     out: &mut [u8],
-) -> Answer
+) -> Result<u32, Refusal>
     requires { AcceptedIndex register.now index.old count × RoomForMore register.now (length index.old) × (lawful key.now ≡ true) × (is_value value ≡ true) }
     ensures answer { result ≡ answer_of (written (put (record { key = key.now; val = value }) (accepted_records (judge register.now))) (length out.old)) }
     ensures output { out.new ≡ output_of (written (put (record { key = key.now; val = value }) (accepted_records (judge register.now))) (length out.old)) (length out.old) }
@@ -67,8 +66,8 @@ pub fn put_record(
     let word = single(key, value, &mut page);
     let found = search(register, index, count, key);
     match set_word(register, &page, index, count, found, word, false) {
-        Chosen::Count(m) => { write_table(register, &page, &none, 0, &none, 0, index, m, out) }
-        Chosen::TooMany => refuse(out, Refusal::TooManyRecords),
+        Some(m) => { write_table(register, &page, &none, 0, &none, 0, index, m, out) }
+        None => refuse(out, Refusal::TooManyRecords),
     }
 }
 
@@ -79,18 +78,18 @@ pub fn remove_record(
     count: usize,
     key: &[u8],
     out: &mut [u8],
-) -> Answer
+) -> Result<u32, Refusal>
     requires { AcceptedIndex register.now index.old count }
     ensures answer { result ≡ answer_of (written_without key.now (accepted_records (judge register.now)) (length out.old)) }
     ensures output { out.new ≡ output_of (written_without key.now (accepted_records (judge register.now)) (length out.old)) (length out.old) }
 {
     let none = [0u64; 1];
     match search(register, index, count, key) {
-        Searched::At(position, _) => {
+        Ok((position, _)) => {
             leave_out(index, count, position);
             let left = count - 1;
             write_table(register, register, &none, 0, &none, 0, index, left, out)
         }
-        Searched::Absent(_) => refuse(out, Refusal::KeyAbsent),
+        Err(_) => refuse(out, Refusal::KeyAbsent),
     }
 }

@@ -13,15 +13,14 @@ ghost use Rattle.writing.specs.Setting.{RoomForMore};
 use crate::accepted::write_range;
 use crate::set::set_word;
 use crate::tests::{test_range, test_record};
-use answer::{Answer, Refusal};
+use answer::Refusal;
 use checking::judge_lent;
-use choice::choose::Chosen;
 use digests::root_end;
 use head::{Head, Headed};
-use judge::{Register, judge};
+use judge::judge;
 use key_calls::slash;
 use reading::accepted::{lower_bound, upper_bound};
-use row::search::{Searched, search};
+use row::search::search;
 use row_words::{leave_out, single};
 use value::as_value;
 use writer::refusal::{refuse, refuse_headed};
@@ -35,16 +34,14 @@ pub fn run_with_rows(
     index: &mut [u64],
     chains: &mut [u64],
     out: &mut [u8],
-) -> Answer
+) -> Result<u32, Refusal>
     requires { RoomFor register.now 1 (length index.old) × RoomFor register.now 2 (length chains.old) }
     ensures answer { result ≡ answer_of (run_outcome register.now first.now last.now (length out.old)) }
     ensures output { out.new ≡ output_of (run_outcome register.now first.now last.now (length out.old)) (length out.old) }
 {
     match judge(register, index, chains) {
-        Register::Accepted(count, n) => {
-            run_accepted(register, first, last, index, count, chains, n, out)
-        }
-        Register::Refused(refusal) => refuse(out, refusal),
+        Ok((count, n)) => { run_accepted(register, first, last, index, count, chains, n, out) }
+        Err(refusal) => refuse(out, refusal),
     }
 }
 
@@ -58,12 +55,12 @@ fn run_accepted(
     chains: &[u64],
     n: usize,
     out: &mut [u8],
-) -> Answer
+) -> Result<u32, Refusal>
     requires { AcceptedIndex register.now index.now count × ChainRow register.now chains.now n }
     ensures answer { result ≡ answer_of (run_outcome register.now first.now last.now (length out.old)) }
     ensures output { out.new ≡ output_of (run_outcome register.now first.now last.now (length out.old)) (length out.old) }
 {
-    if let Answer::Refused(refusal) = test_range(first, last) {
+    if let Err(refusal) = test_range(first, last) {
         return refuse(out, refusal);
     }
     let low = lower_bound(register, index, count, first);
@@ -87,12 +84,12 @@ pub fn set_value_with_rows(
     ensures output { out.new ≡ moved_output (set_outcome greater register.now head key.now value.now (length out.old)) (length out.old) }
 {
     match judge_lent(register, head, index, chains) {
-        Register::Accepted(count, n) => {
+        Ok((count, n)) => {
             set_accepted(
                 register, head, key, value, greater, index, count, chains, n, out,
             )
         }
-        Register::Refused(refusal) => refuse_headed(out, refusal, head),
+        Err(refusal) => refuse_headed(out, refusal, head),
     }
 }
 
@@ -113,7 +110,7 @@ fn set_accepted(
     ensures headed { result ≡ headed (set_outcome greater register.now head key.now value.now (length out.old)) head }
     ensures output { out.new ≡ moved_output (set_outcome greater register.now head key.now value.now (length out.old)) (length out.old) }
 {
-    if let Answer::Refused(refusal) = test_record(key, value) {
+    if let Err(refusal) = test_record(key, value) {
         return refuse_headed(out, refusal, head);
     }
     let mut page = [0u8; 512];
@@ -122,12 +119,12 @@ fn set_accepted(
     let end = root_end(register, chains, n);
     let root = &register[..end];
     match set_word(register, &page, index, count, found, word, greater) {
-        Chosen::Count(m) => {
+        Some(m) => {
             write_headed(
                 register, &page, chains, n, chains, 0, index, m, root, head, out,
             )
         }
-        Chosen::TooMany => refuse_headed(out, Refusal::TooManyRecords, head),
+        None => refuse_headed(out, Refusal::TooManyRecords, head),
     }
 }
 
@@ -145,10 +142,8 @@ pub fn remove_with_rows(
     ensures output { out.new ≡ moved_output (remove_outcome register.now head key.now (length out.old)) (length out.old) }
 {
     match judge_lent(register, head, index, chains) {
-        Register::Accepted(count, n) => {
-            remove_accepted(register, head, key, index, count, chains, n, out)
-        }
-        Register::Refused(refusal) => refuse_headed(out, refusal, head),
+        Ok((count, n)) => { remove_accepted(register, head, key, index, count, chains, n, out) }
+        Err(refusal) => refuse_headed(out, refusal, head),
     }
 }
 
@@ -167,19 +162,17 @@ fn remove_accepted(
     ensures headed { result ≡ headed (remove_outcome register.now head key.now (length out.old)) head }
     ensures output { out.new ≡ moved_output (remove_outcome register.now head key.now (length out.old)) (length out.old) }
 {
-    if let Answer::Refused(refusal) = slash(key) {
+    if let Err(refusal) = slash(key) {
         return refuse_headed(out, refusal, head);
     }
     let end = root_end(register, chains, n);
     let root = &register[..end];
-    match search(register, index, count, key) {
-        Searched::At(position, _) => {
-            leave_out(index, count, position);
-            let left = count - 1;
-            write_headed(
-                register, register, chains, n, chains, n, index, left, root, head, out,
-            )
-        }
-        Searched::Absent(_) => refuse_headed(out, Refusal::KeyAbsent, head),
-    }
+    let Ok((position, _)) = search(register, index, count, key) else {
+        return refuse_headed(out, Refusal::KeyAbsent, head);
+    };
+    leave_out(index, count, position);
+    let left = count - 1;
+    write_headed(
+        register, register, chains, n, chains, n, index, left, root, head, out,
+    )
 }

@@ -3,11 +3,9 @@ ghost use Rattle.std.specs.Prelude.{[], ◌∷◌};
 ghost use Rattle.choice.specs.Choice.{woven_of, ChooseSays};
 ghost use Rattle.writing.specs.Setting.{ToSet};
 
-use choice::choose::Chosen;
 use choice::policy::word_of;
 use limits::{LONGEST_KEY, MOST};
 use row::fetch::fetch_from;
-use row::search::Searched;
 use row_words::insert_word;
 
 // The word of a record of u goes among the first n words of the index, where the search found its key or the key's place. For two records
@@ -17,27 +15,27 @@ pub fn set_word(
     u: &[u8],
     index: &mut [u64],
     n: usize,
-    found: Searched,
+    found: Result<(usize, usize), usize>,
     word: u64,
     greater: bool,
-) -> Chosen
+) -> Option<usize>
     requires { ToSet s.now u.now index.old n found word }
     ensures { ChooseSays s.now u.now (woven_of greater s.now u.now index.old n (word ∷ []) 1) result index.new }
 {
     match found {
-        Searched::At(position, place) => {
+        Ok((position, place)) => {
             let mut buffer = [0u8; LONGEST_KEY];
             let other = fetch_from(u, word, &mut buffer, 0);
             let old = index[position];
             index[position] = word_of(s, u, greater, old, place, word, other.value);
-            Chosen::Count(n)
+            Some(n)
         }
-        Searched::Absent(position) => {
+        Err(position) => {
             if MOST <= n {
-                return Chosen::TooMany;
+                return None;
             }
             insert_word(index, n, position, word);
-            Chosen::Count(n + 1)
+            Some(n + 1)
         }
     }
 }

@@ -4,10 +4,10 @@ ghost use Rattle.key.specs.Key.{less};
 ghost use Rattle.tree.specs.Judge.{due};
 ghost use Rattle.writing.specs.Tests.{answer_due, range_tests, record_tests};
 
-use answer::{Answer, Refusal};
-use key::Order;
+use answer::Refusal;
 use key_calls::slash;
 use key_order::compare;
+use std::cmp::Ordering;
 use value::{VALUE, is_codec};
 
 // Whether a key is less than another.
@@ -15,40 +15,40 @@ fn is_less(key: &[u8], other: &[u8]) -> bool
     ensures { result ≡ less key.now other.now }
 {
     match compare(key, other) {
-        Order::Less => true,
-        Order::Equal => false,
-        Order::Greater => false,
+        Ordering::Less => true,
+        Ordering::Equal => false,
+        Ordering::Greater => false,
     }
 }
 
 // The two keys of a run.
-pub fn test_range(first: &[u8], last: &[u8]) -> Answer
+pub fn test_range(first: &[u8], last: &[u8]) -> Result<u32, Refusal>
     ensures { result ≡ answer_due (due (range_tests first.now last.now)) }
 {
-    if let Answer::Refused(refusal) = slash(first) {
-        return Answer::Refused(refusal);
+    if let Err(refusal) = slash(first) {
+        return Err(refusal);
     }
-    if let Answer::Refused(refusal) = slash(last) {
-        return Answer::Refused(refusal);
+    if let Err(refusal) = slash(last) {
+        return Err(refusal);
     }
     if is_less(last, first) {
-        return Answer::Refused(Refusal::FirstAfterLast);
+        return Err(Refusal::FirstAfterLast);
     }
-    Answer::Done(0)
+    Ok(0)
 }
 
 // The key and the value of put and join.
-pub fn test_record(key: &[u8], value: &[u8]) -> Answer
+pub fn test_record(key: &[u8], value: &[u8]) -> Result<u32, Refusal>
     ensures { result ≡ answer_due (due (record_tests key.now value.now)) }
 {
-    if let Answer::Refused(refusal) = slash(key) {
-        return Answer::Refused(refusal);
+    if let Err(refusal) = slash(key) {
+        return Err(refusal);
     }
     if value.len() != VALUE {
-        return Answer::Refused(Refusal::WrongValue);
+        return Err(Refusal::WrongValue);
     }
     if !is_codec(value[0]) {
-        return Answer::Refused(Refusal::WrongValue);
+        return Err(Refusal::WrongValue);
     }
-    Answer::Done(0)
+    Ok(0)
 }

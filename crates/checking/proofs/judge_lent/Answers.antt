@@ -6,13 +6,13 @@ use Rattle.checking.proofs.judge_lent.Goals as goal
 pub head_of-own-requires : goal.head_of-own-requires
 head_of-own-requires c =
     let j = c.judge in
-    accepted_rows _ _ _ j.result j.ensures c.in-Accepted.is
+    accepted_rows _ _ _ j.result j.ensures c.in-Ok.is
 
 pub returns-then-not-same_head : goal.returns-then-not-same_head
 returns-then-not-same_head c =
     let j = c.judge in
     let args = c.args in
-    let a = (accepted_rows _ _ _ j.result j.ensures c.in-Accepted.is).0 in
+    let a = (accepted_rows _ _ _ j.result j.ensures c.in-Ok.is).0 in
     untrue args.register.now args.head a.tree a.judged c.head_of-own.result (c.head_of-own.ensures a.tree a.judged)
     (sym c.same_head.ensures ∙ c.if-not-same_head.true)
 
@@ -20,7 +20,7 @@ pub returns-else-not-same_head : goal.returns-else-not-same_head
 returns-else-not-same_head c =
     let j = c.judge in
     let args = c.args in
-    let rows = accepted_rows _ _ _ j.result j.ensures c.in-Accepted.is in
+    let rows = accepted_rows _ _ _ j.result j.ensures c.in-Ok.is in
     let a = rows.0 in (
       rows.0,
       rows.1,
@@ -28,8 +28,8 @@ returns-else-not-same_head c =
           (sym c.same_head.ensures ∙ c.if-not-same_head.false),
     )
 
-pub returns-in-Refused : goal.returns-in-Refused
-returns-in-Refused c =
+pub returns-in-Err : goal.returns-in-Err
+returns-in-Err c =
     let j = c.judge in
     let args = c.args in
-    lent_refused args.register.now args.head _ (judged_refused _ _ _ j.result j.ensures c.in-Refused.is)
+    lent_refused args.register.now args.head _ (judged_refused _ _ _ j.result j.ensures c.in-Err.is)

@@ -20,30 +20,30 @@ gather_entries-slice_bounds-gather_link-start t c = let l = c.loop-j in total_wi
 pub gather_entries-gather_link-requires : goal.gather_entries-gather_link-requires
 gather_entries-gather_link-requires t c =
     let g = c.requires in
-    (below_one c.decreases, turn_stands g (c.loop-j.invariant.2 g) c.loop-j-test.true _ c.locate_entry.ensures c.in-Entry.e c.in-Entry.is)
+    (below_one c.decreases, turn_stands g (c.loop-j.invariant.2 g) c.loop-j-test.true _ c.locate_entry.ensures c.in-Ok.e c.in-Ok.is)
 
 pub gather_entries-overflow_add-total : goal.gather_entries-overflow_add-total
 gather_entries-overflow_add-total t c =
     let g = c.requires in
     let l = c.loop-j in
     let w = c.gather_link in
-    omega (arith, turn_fits g (l.invariant.2 g) c.loop-j-test.true _ c.locate_entry.ensures c.in-Entry.e c.in-Entry.is l.invariant.1 _ _ w.ensures c.in-Length.more c.in-Length.is w.auto.out)
+    omega (arith, turn_fits g (l.invariant.2 g) c.loop-j-test.true _ c.locate_entry.ensures c.in-Ok.e c.in-Ok.is l.invariant.1 _ _ w.ensures c.in-Some.more c.in-Some.is w.auto.out)
 
-pub gather_entries-returns-in-NoRoom : goal.gather_entries-returns-in-NoRoom
-gather_entries-returns-in-NoRoom t c =
+pub gather_entries-returns-in-None : goal.gather_entries-returns-in-None
+gather_entries-returns-in-None t c =
     let l = c.loop-j in
-    λ g. no_room_turn g (l.invariant.2 g) c.loop-j-test.true _ c.locate_entry.ensures c.in-Entry.e c.in-Entry.is l.invariant.1 _ _ c.gather_link.ensures c.in-NoRoom.is
+    λ g. no_room_turn g (l.invariant.2 g) c.loop-j-test.true _ c.locate_entry.ensures c.in-Ok.e c.in-Ok.is l.invariant.1 _ _ c.gather_link.ensures c.in-None.is
 
-pub gather_entries-returns-in-EntryStop : goal.gather_entries-returns-in-EntryStop
-gather_entries-returns-in-EntryStop t c =
+pub gather_entries-returns-in-Err : goal.gather_entries-returns-in-Err
+gather_entries-returns-in-Err t c =
     let l = c.loop-j in
-    λ g. absurd (turns_go_on g (l.invariant.2 g) c.loop-j-test.true _ c.locate_entry.ensures c.in-EntryStop.field-0 c.in-EntryStop.is)
+    λ g. absurd (turns_go_on g (l.invariant.2 g) c.loop-j-test.true _ c.locate_entry.ensures c.in-Err.field-0 c.in-Err.is)
 
 pub gather_entries-loop-j-preserved : goal.gather_entries-loop-j-preserved
 gather_entries-loop-j-preserved t c =
     let l = c.loop-j in
     let h = c.loop-j-test.true in
-    (omega arith, search rules, λ g. turn_gathered g (l.invariant.2 g) h _ c.locate_entry.ensures c.in-Entry.e c.in-Entry.is l.invariant.1 _ _ c.gather_link.ensures c.in-Length.more c.in-Length.is)
+    (omega arith, search rules, λ g. turn_gathered g (l.invariant.2 g) h _ c.locate_entry.ensures c.in-Ok.e c.in-Ok.is l.invariant.1 _ _ c.gather_link.ensures c.in-Some.more c.in-Some.is)
 
 pub gather_entries-returns : goal.gather_entries-returns
 gather_entries-returns t c = let l = c.loop-j in λ g. turns_end g (l.invariant.2 g) c.loop-j-test.false
@@ -71,85 +71,85 @@ gather_link-returns t c =
     λ g. link_followed g c.if-link-eq0.false r.result r.ensures c.args.out.now w.result w.new.out w.ensures
 
 pub gather_tree-overflow_sub-own : goal.gather_tree-overflow_sub-own
-gather_tree-overflow_sub-own t c = own_ahead c.requires _ refl _ c.read_page.ensures c.in-Page.p c.in-Page.is
+gather_tree-overflow_sub-own t c = own_ahead c.requires _ refl _ c.read_page.ensures c.in-Ok.p c.in-Ok.is
 
 pub gather_tree-returns-then-out-own : goal.gather_tree-returns-then-out-own
 gather_tree-returns-then-out-own t c =
-    λ g. no_room_own g _ refl _ c.read_page.ensures c.in-Page.p c.in-Page.is c.args.out.now c.if-out-own.true
+    λ g. no_room_own g _ refl _ c.read_page.ensures c.in-Ok.p c.in-Ok.is c.args.out.now c.if-out-own.true
 
 pub gather_tree-slice_bounds-write_bytes-count : goal.gather_tree-slice_bounds-write_bytes-count
-gather_tree-slice_bounds-write_bytes-count t c = own_ahead c.requires _ refl _ c.read_page.ensures c.in-Page.p c.in-Page.is
+gather_tree-slice_bounds-write_bytes-count t c = own_ahead c.requires _ refl _ c.read_page.ensures c.in-Ok.p c.in-Ok.is
 
 pub gather_tree-slice_bounds-write_bytes-start : goal.gather_tree-slice_bounds-write_bytes-start
-gather_tree-slice_bounds-write_bytes-start t c = own_ahead c.requires _ refl _ c.read_page.ensures c.in-Page.p c.in-Page.is
+gather_tree-slice_bounds-write_bytes-start t c = own_ahead c.requires _ refl _ c.read_page.ensures c.in-Ok.p c.in-Ok.is
 
 pub gather_tree-slice_bounds-write_bytes-end : goal.gather_tree-slice_bounds-write_bytes-end
-gather_tree-slice_bounds-write_bytes-end t c = own_within c.requires _ refl _ c.read_page.ensures c.in-Page.p c.in-Page.is
+gather_tree-slice_bounds-write_bytes-end t c = own_within c.requires _ refl _ c.read_page.ensures c.in-Ok.p c.in-Ok.is
 
 pub gather_tree-returns-then-layer-eq0 : goal.gather_tree-returns-then-layer-eq0
 gather_tree-returns-then-layer-eq0 t c =
     let w = c.write_bytes in
-    λ g. leaf_written g _ refl _ c.read_page.ensures c.in-Page.p c.in-Page.is _ _ w.ensures w.auto.out c.if-layer-eq0.true
+    λ g. leaf_written g _ refl _ c.read_page.ensures c.in-Ok.p c.in-Ok.is _ _ w.ensures w.auto.out c.if-layer-eq0.true
 
 pub gather_tree-slice_bounds-gather_link-count : goal.gather_tree-slice_bounds-gather_link-count
 gather_tree-slice_bounds-gather_link-count t c =
     let w = c.write_bytes in
-    own_inside c.requires _ refl _ c.read_page.ensures c.in-Page.p c.in-Page.is _ _ w.ensures w.auto.out
+    own_inside c.requires _ refl _ c.read_page.ensures c.in-Ok.p c.in-Ok.is _ _ w.ensures w.auto.out
 
 pub gather_tree-slice_bounds-gather_link-start : goal.gather_tree-slice_bounds-gather_link-start
 gather_tree-slice_bounds-gather_link-start t c =
     let w = c.write_bytes in
-    own_inside c.requires _ refl _ c.read_page.ensures c.in-Page.p c.in-Page.is _ _ w.ensures w.auto.out
+    own_inside c.requires _ refl _ c.read_page.ensures c.in-Ok.p c.in-Ok.is _ _ w.ensures w.auto.out
 
 pub gather_tree-gather_link-requires : goal.gather_tree-gather_link-requires
 gather_tree-gather_link-requires t c =
-    (below_two c.decreases, left_stands c.requires _ refl _ c.read_page.ensures c.in-Page.p c.in-Page.is)
+    (below_two c.decreases, left_stands c.requires _ refl _ c.read_page.ensures c.in-Ok.p c.in-Ok.is)
 
 pub gather_tree-overflow_add-behind : goal.gather_tree-overflow_add-behind
 gather_tree-overflow_add-behind t c =
     let w = c.write_bytes in
     let l = c.gather_link in
-    omega (arith, left_fits c.requires _ refl _ c.read_page.ensures c.in-Page.p c.in-Page.is _ _ w.ensures w.auto.out _ _ l.ensures c.in-Length.left c.in-Length.is l.auto.out)
+    omega (arith, left_fits c.requires _ refl _ c.read_page.ensures c.in-Ok.p c.in-Ok.is _ _ w.ensures w.auto.out _ _ l.ensures c.in-Some.left c.in-Some.is l.auto.out)
 
 pub gather_tree-slice_bounds-gather_entries-count : goal.gather_tree-slice_bounds-gather_entries-count
 gather_tree-slice_bounds-gather_entries-count t c =
     let w = c.write_bytes in
     let l = c.gather_link in
-    both_inside c.requires _ refl _ c.read_page.ensures c.in-Page.p c.in-Page.is _ _ w.ensures w.auto.out _ _ l.ensures c.in-Length.left c.in-Length.is l.auto.out
+    both_inside c.requires _ refl _ c.read_page.ensures c.in-Ok.p c.in-Ok.is _ _ w.ensures w.auto.out _ _ l.ensures c.in-Some.left c.in-Some.is l.auto.out
 
 pub gather_tree-slice_bounds-gather_entries-start : goal.gather_tree-slice_bounds-gather_entries-start
 gather_tree-slice_bounds-gather_entries-start t c =
     let w = c.write_bytes in
     let l = c.gather_link in
-    both_inside c.requires _ refl _ c.read_page.ensures c.in-Page.p c.in-Page.is _ _ w.ensures w.auto.out _ _ l.ensures c.in-Length.left c.in-Length.is l.auto.out
+    both_inside c.requires _ refl _ c.read_page.ensures c.in-Ok.p c.in-Ok.is _ _ w.ensures w.auto.out _ _ l.ensures c.in-Some.left c.in-Some.is l.auto.out
 
 pub gather_tree-gather_entries-requires : goal.gather_tree-gather_entries-requires
 gather_tree-gather_entries-requires t c =
-    (one_less _ c.decreases, row_stands c.requires _ refl _ c.read_page.ensures c.in-Page.p c.in-Page.is)
+    (one_less _ c.decreases, row_stands c.requires _ refl _ c.read_page.ensures c.in-Ok.p c.in-Ok.is)
 
 pub gather_tree-overflow_add-result : goal.gather_tree-overflow_add-result
 gather_tree-overflow_add-result t c =
     let w = c.write_bytes in
     let l = c.gather_link in
     let r = c.gather_entries in
-    omega (arith, tree_fits c.requires _ refl _ c.read_page.ensures c.in-Page.p c.in-Page.is _ _ w.ensures w.auto.out _ _ l.ensures c.in-Length.left c.in-Length.is l.auto.out _ _ r.ensures c.in-Length-gather_entries.below c.in-Length-gather_entries.is r.auto.out)
+    omega (arith, tree_fits c.requires _ refl _ c.read_page.ensures c.in-Ok.p c.in-Ok.is _ _ w.ensures w.auto.out _ _ l.ensures c.in-Some.left c.in-Some.is l.auto.out _ _ r.ensures c.in-Some-gather_entries.below c.in-Some-gather_entries.is r.auto.out)
 
-pub gather_tree-returns-in-Length-gather_entries : goal.gather_tree-returns-in-Length-gather_entries
-gather_tree-returns-in-Length-gather_entries t c =
+pub gather_tree-returns-in-Some-gather_entries : goal.gather_tree-returns-in-Some-gather_entries
+gather_tree-returns-in-Some-gather_entries t c =
     let w = c.write_bytes in
     let l = c.gather_link in
-    λ g. tree_written g _ refl _ c.read_page.ensures c.in-Page.p c.in-Page.is _ _ w.ensures w.auto.out _ _ l.ensures c.in-Length.left c.in-Length.is l.auto.out _ _ c.gather_entries.ensures c.in-Length-gather_entries.below c.in-Length-gather_entries.is
+    λ g. tree_written g _ refl _ c.read_page.ensures c.in-Ok.p c.in-Ok.is _ _ w.ensures w.auto.out _ _ l.ensures c.in-Some.left c.in-Some.is l.auto.out _ _ c.gather_entries.ensures c.in-Some-gather_entries.below c.in-Some-gather_entries.is
 
-pub gather_tree-returns-in-NoRoom-gather_entries : goal.gather_tree-returns-in-NoRoom-gather_entries
-gather_tree-returns-in-NoRoom-gather_entries t c =
+pub gather_tree-returns-in-None-gather_entries : goal.gather_tree-returns-in-None-gather_entries
+gather_tree-returns-in-None-gather_entries t c =
     let w = c.write_bytes in
     let l = c.gather_link in
-    λ g. no_room_row g _ refl _ c.read_page.ensures c.in-Page.p c.in-Page.is _ _ w.ensures w.auto.out _ _ l.ensures c.in-Length.left c.in-Length.is l.auto.out _ _ c.gather_entries.ensures c.in-NoRoom-gather_entries.is
+    λ g. no_room_row g _ refl _ c.read_page.ensures c.in-Ok.p c.in-Ok.is _ _ w.ensures w.auto.out _ _ l.ensures c.in-Some.left c.in-Some.is l.auto.out _ _ c.gather_entries.ensures c.in-None-gather_entries.is
 
-pub gather_tree-returns-in-NoRoom : goal.gather_tree-returns-in-NoRoom
-gather_tree-returns-in-NoRoom t c =
+pub gather_tree-returns-in-None : goal.gather_tree-returns-in-None
+gather_tree-returns-in-None t c =
     let w = c.write_bytes in
-    λ g. no_room_left g _ refl _ c.read_page.ensures c.in-Page.p c.in-Page.is _ _ w.ensures w.auto.out _ _ c.gather_link.ensures c.in-NoRoom.is
+    λ g. no_room_left g _ refl _ c.read_page.ensures c.in-Ok.p c.in-Ok.is _ _ w.ensures w.auto.out _ _ c.gather_link.ensures c.in-None.is
 
-pub gather_tree-returns-in-PageStop : goal.gather_tree-returns-in-PageStop
-gather_tree-returns-in-PageStop t c = λ g. absurd (tree_goes_on g _ refl _ c.read_page.ensures c.in-PageStop.field-0 c.in-PageStop.is)
+pub gather_tree-returns-in-Err : goal.gather_tree-returns-in-Err
+gather_tree-returns-in-Err t c = λ g. absurd (tree_goes_on g _ refl _ c.read_page.ensures c.in-Err.field-0 c.in-Err.is)

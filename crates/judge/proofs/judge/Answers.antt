@@ -11,16 +11,16 @@ verdict_of-requires c =
     let a = c.args in
     let pre = c.requires in
     let w = c.walk in
-    (omega (arith, c.if-s-gt-LONGEST), λ k few long. omega (arith, w.auto, pre.0 k few long), λ k few long. omega (arith, w.auto, pre.1 k few long), walked_whole a.s.now w.new.index w.new.row w.result c.in-Whole.st w.ensures c.in-Whole.is)
+    (omega (arith, c.if-s-gt-LONGEST), λ k few long. omega (arith, w.auto, pre.0 k few long), λ k few long. omega (arith, w.auto, pre.1 k few long), walked_whole a.s.now w.new.index w.new.row w.result c.in-Ok.st w.ensures c.in-Ok.is)
 
 pub returns-in-EndsEarly : goal.returns-in-EndsEarly
 returns-in-EndsEarly c =
     let a = c.args in
     let w = c.walk in
-    ends_early_lem a.s.now w.new.index w.new.row w.result c.in-Stopped.stop (omega (arith, c.if-s-gt-LONGEST)) w.ensures c.in-Stopped.is (search rules)
+    ends_early_lem a.s.now w.new.index w.new.row w.result c.in-Err.stop (omega (arith, c.if-s-gt-LONGEST)) w.ensures c.in-Err.is (search rules)
 
 pub returns-in-Departs : goal.returns-in-Departs
 returns-in-Departs c =
     let a = c.args in
     let w = c.walk in
-    departs_early a.s.now w.new.index w.new.row w.result c.in-Stopped.stop (omega (arith, c.if-s-gt-LONGEST)) w.ensures c.in-Stopped.is (search rules)
+    departs_early a.s.now w.new.index w.new.row w.result c.in-Err.stop (omega (arith, c.if-s-gt-LONGEST)) w.ensures c.in-Err.is (search rules)

@@ -29,18 +29,18 @@ go_on-requires c =
     let pre = c.requires.to_keep in
     (omega (arith, pre.1.pages, pre.0.few_pages), omega (arith, pre.1.words, pre.0.few_words))
 
-pub returns-in-End : goal.returns-in-End
-returns-in-End c =
+pub returns-in-Some : goal.returns-in-Some
+returns-in-Some c =
     let v = c.add_part in
     let a = c.args in
     let kept = subst (PassedOver a.marks.now a.n a.progress.i) c.if-is_passed_over.false c.is_passed_over.ensures in
     step_goes_on c.requires.to_keep.0 a.progress c.requires.to_keep.1 a.out.now _ kept c.next_part-part.ensures _
-    v.result v.ensures c.in-End.end c.in-End.is c.go_on.result c.go_on.ensures
+    v.result v.ensures c.in-Some.end c.in-Some.is c.go_on.result c.go_on.ensures
 
-pub returns-in-Unequal : goal.returns-in-Unequal
-returns-in-Unequal c =
+pub returns-in-None : goal.returns-in-None
+returns-in-None c =
     let v = c.add_part in
     let a = c.args in
     let kept = subst (PassedOver a.marks.now a.n a.progress.i) c.if-is_passed_over.false c.is_passed_over.ensures in
     step_shares c.requires.to_keep.0 a.progress c.requires.to_keep.1 a.out.now _ kept c.next_part-part.ensures _
-    v.result v.ensures c.in-Unequal.is
+    v.result v.ensures c.in-None.is

@@ -11,8 +11,8 @@ returns-then-buffer-size c = search (rules, key_too_long)
 pub slice_bounds-slash-end : goal.slice_bounds-slash-end
 slice_bounds-slash-end c = sym (length-take-le _ _ (search rules))
 
-pub returns-in-Done : goal.returns-in-Done
-returns-in-Done c = key_tested _ _ (search rules) _ (sym (slash_done _ _ (sym c.slash.ensures ∙ c.in-Done.is)))
+pub returns-in-Ok : goal.returns-in-Ok
+returns-in-Ok c = key_tested _ _ (search rules) _ (sym (slash_done _ _ (sym c.slash.ensures ∙ c.in-Ok.is)))
 
-pub returns-in-Refused : goal.returns-in-Refused
-returns-in-Refused c = key_tested _ _ (search rules) _ (sym (slash_refused _ _ (sym c.slash.ensures ∙ c.in-Refused.is)).0)
+pub returns-in-Err : goal.returns-in-Err
+returns-in-Err c = key_tested _ _ (search rules) _ (sym (slash_refused _ _ (sym c.slash.ensures ∙ c.in-Err.is)).0)

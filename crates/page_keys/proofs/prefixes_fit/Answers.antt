@@ -20,8 +20,8 @@ returns-then-not-prefix_fits c = search (rules, row_wrong)
 pub extend_key-size-requires : goal.extend_key-size-requires
 extend_key-size-requires c = (search (rules, entry_inside), search (rules, shares_small), search (rules, size_small))
 
-pub returns-in-EntryStop : goal.returns-in-EntryStop
-returns-in-EntryStop c = search (rules, row_stops)
+pub returns-in-Err : goal.returns-in-Err
+returns-in-Err c = search (rules, row_stops)
 
 pub loop-i-preserved : goal.loop-i-preserved
 loop-i-preserved c = (search rules, search rules, search rules, search rules, search (rules, row_more))

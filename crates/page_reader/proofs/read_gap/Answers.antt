@@ -9,11 +9,11 @@ returns-then-s-at c = search (rules, gap_none)
 pub returns-then-s-at-2 : goal.returns-then-s-at-2
 returns-then-s-at-2 c = search (rules, gap_null)
 
-pub overflow_add-result-in-Place : goal.overflow_add-result-in-Place
-overflow_add-result-in-Place c = omega (arith, digest_within _ _ _ _ _ _ _ c.read_link.ensures c.in-Place.is)
+pub overflow_add-result-2 : goal.overflow_add-result-2
+overflow_add-result-2 c = omega (arith, digest_within _ _ _ _ _ _ _ c.read_link.ensures c.in_ok-digest.was)
 
-pub returns-in-Place : goal.returns-in-Place
-returns-in-Place c = search (rules, gap_there)
+pub returns : goal.returns
+returns c = search (rules, gap_there)
 
-pub returns-in-PlaceStop : goal.returns-in-PlaceStop
-returns-in-PlaceStop c = search (rules, gap_stops)
+pub returns-in_err-digest : goal.returns-in_err-digest
+returns-in_err-digest c = search (rules, gap_stops)

@@ -8,14 +8,14 @@ returns-then-s-at c = search (rules, number_none)
 pub returns-then-first-least : goal.returns-then-first-least
 returns-then-first-least c = search (rules, number_low)
 
-pub returns-then-n-lt24 : goal.returns-then-n-lt24
-returns-then-n-lt24 c = search (rules, number_there)
+pub returns-in-0-to-23 : goal.returns-in-0-to-23
+returns-in-0-to-23 c = search (rules, number_there)
 
-pub returns-then-n-eq24 : goal.returns-then-n-eq24
-returns-then-n-eq24 c = search (rules, number_one)
+pub returns-in-24 : goal.returns-in-24
+returns-in-24 c = search (rules, number_one)
 
-pub returns-then-n-eq25 : goal.returns-then-n-eq25
-returns-then-n-eq25 c = search (rules, number_two)
+pub returns-in-25 : goal.returns-in-25
+returns-in-25 c = search (rules, number_two)
 
-pub returns : goal.returns
-returns c = search (rules, number_high)
+pub returns-in_default : goal.returns-in_default
+returns-in_default c = search (rules, number_high)

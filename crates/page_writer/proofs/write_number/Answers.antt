@@ -6,18 +6,20 @@ use Rattle.page_writer.proofs.write_number.Goals as goal
 pub write_bytes-requires : goal.write_bytes-requires
 write_bytes-requires c = omega (arith, length_first c.args.n (omega arith))
 
-pub returns-then-n-lt24 : goal.returns-then-n-lt24
-returns-then-n-lt24 c = let it = first_written _ _ _ _ (omega arith) c.write_bytes.ensures in record { output = it.0; count = it.1 }
+pub returns-in-0-to-23 : goal.returns-in-0-to-23
+returns-in-0-to-23 c = let it = first_written _ _ _ _ (omega arith) c.write_bytes.ensures in record { output = it.0; count = it.1 }
 
-pub write_bytes-requires-then-n-lt256 : goal.write_bytes-requires-then-n-lt256
-write_bytes-requires-then-n-lt256 c = omega (arith, length_one c.args.n (omega arith) (omega arith))
+pub write_bytes-requires-in-24-to-255 : goal.write_bytes-requires-in-24-to-255
+write_bytes-requires-in-24-to-255 c = omega (arith, length_one c.args.n (omega arith) (omega arith))
 
-pub returns-then-n-lt256 : goal.returns-then-n-lt256
-returns-then-n-lt256 c =
-    let it = one_written _ _ _ _ (omega arith) (omega arith) c.write_bytes-then-n-lt256.ensures in record { output = it.0; count = it.1 }
+pub returns-in-24-to-255 : goal.returns-in-24-to-255
+returns-in-24-to-255 c =
+    let it = one_written _ _ _ _ (omega arith) (omega arith) c.write_bytes-in-24-to-255.ensures in record { output = it.0; count = it.1 }
 
-pub write_bytes-requires-2 : goal.write_bytes-requires-2
-write_bytes-requires-2 c = omega (arith, length_two c.args.n (omega arith))
+pub write_bytes-requires-in_default : goal.write_bytes-requires-in_default
+write_bytes-requires-in_default c = omega (arith, length_two c.args.n (omega arith))
 
-pub returns : goal.returns
-returns c = let it = two_written _ _ _ _ (omega arith) c.write_bytes-2.ensures in record { output = it.0; count = it.1 }
+pub returns-in_default : goal.returns-in_default
+returns-in_default c =
+    let it = two_written _ _ _ _ (omega arith) (omega arith) _ c.to_be_bytes.ensures c.write_bytes-in_default.ensures in
+    record { output = it.0; count = it.1 }

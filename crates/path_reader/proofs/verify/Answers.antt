@@ -5,8 +5,8 @@ use Rattle.path_reader.proofs.verify.Goals as goal
 pub returns-then-path-gt-LONGEST : goal.returns-then-path-gt-LONGEST
 returns-then-path-gt-LONGEST c = search (rules, path_too_long)
 
-pub returns-in-Refused : goal.returns-in-Refused
-returns-in-Refused c = search (rules, key_refused)
+pub returns-in-Err : goal.returns-in-Err
+returns-in-Err c = search (rules, key_refused)
 
 pub returns-then-root-ne-DIGEST : goal.returns-then-root-ne-DIGEST
 returns-then-root-ne-DIGEST c = search (rules, root_length)

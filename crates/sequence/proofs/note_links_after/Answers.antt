@@ -14,11 +14,11 @@ loop-i-init c =
 pub note_link-total-requires : goal.note_link-total-requires
 note_link-total-requires c =
     let l = c.loop-i in
-    let low : c.in-Entry.e.link ≤ length c.args.s.now = search (rules, link_low) in
+    let low : c.in-Ok.e.link ≤ length c.args.s.now = search (rules, link_low) in
     (omega (arith, low, c.requires.0), omega (arith, c.loop-i-test.true, l.invariant.2, c.requires.1))
 
-pub returns-in-EntryStop : goal.returns-in-EntryStop
-returns-in-EntryStop c =
+pub returns-in-Err : goal.returns-in-Err
+returns-in-Err c =
     record {
       few = search rules;
       noted = search (rules, links_stop);

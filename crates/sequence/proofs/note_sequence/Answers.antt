@@ -11,7 +11,7 @@ loop-at-init c = (search rules, search rules, search rules, search rules, search
 pub note_links_after-before-requires : goal.note_links_after-before-requires
 note_links_after-before-requires c =
     let l = c.loop-at in
-    let p = c.in-Page.p in
+    let p = c.in-Ok.p in
     let ahead : l.at + p.count + 2 ≤ p.end = search (rules, page_ahead_lem) in
     let within : p.end ≤ length c.args.s.now = search (rules, page_inside) in
     (search rules, omega (arith, ahead, within, l.invariant.4, c.requires))
@@ -19,7 +19,7 @@ note_links_after-before-requires c =
 pub note_link-count-requires : goal.note_link-count-requires
 note_link-count-requires c =
     let l = c.loop-at in
-    let p = c.in-Page.p in
+    let p = c.in-Ok.p in
     let ahead : l.at + p.count + 2 ≤ p.end = search (rules, page_ahead_lem) in
     let within : p.end ≤ length c.args.s.now = search (rules, page_inside) in
     let low : p.left ≤ length c.args.s.now = search (rules, left_low) in
@@ -28,7 +28,7 @@ note_link-count-requires c =
 pub loop-at-smaller : goal.loop-at-smaller
 loop-at-smaller c =
     let l = c.loop-at in
-    let p = c.in-Page.p in
+    let p = c.in-Ok.p in
     let ahead : l.at + p.count + 2 ≤ p.end = search (rules, page_ahead_lem) in
     let within : p.end ≤ length c.args.s.now = search (rules, page_inside) in
     omega (arith, ahead, within)
@@ -36,15 +36,15 @@ loop-at-smaller c =
 pub loop-at-preserved : goal.loop-at-preserved
 loop-at-preserved c =
     let l = c.loop-at in
-    let p = c.in-Page.p in
+    let p = c.in-Ok.p in
     let ahead : l.at + p.count + 2 ≤ p.end = search (rules, page_ahead_lem) in
     let within : p.end ≤ length c.args.s.now = search (rules, page_inside) in
     let few : c.note_link-count.result ≤ p.end =
     omega (arith, ahead, l.invariant.4, c.note_links_after-before.ensures.few, c.note_link-count.ensures.few) in
     (search rules, search rules, within, omega (arith, ahead, l.invariant.3), few, search (rules, sequence_goes_on))
 
-pub returns-in-PageStop : goal.returns-in-PageStop
-returns-in-PageStop c = search (rules, sequence_stops)
+pub returns-in-Err : goal.returns-in-Err
+returns-in-Err c = search (rules, sequence_stops)
 
 pub returns : goal.returns
 returns c = search (rules, sequence_ends)

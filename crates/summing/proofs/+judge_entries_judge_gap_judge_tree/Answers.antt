@@ -20,24 +20,24 @@ pub judge_entries-returns-then-count-ge-MOST : goal.judge_entries-returns-then-c
 judge_entries-returns-then-count-ge-MOST t c =
     let l = c.loop-i.invariant.5 in
     let more = c.loop-i-test.true in
-    let e = c.in-Entry.e in
-    let found = entry_located c.locate_entry.ensures c.in-Entry.is in
+    let e = c.in-Ok.e in
+    let found = entry_located c.locate_entry.ensures c.in-Ok.is in
     entries_too_many l more e found (omega (arith, c.if-count-ge-MOST.true))
 
 pub judge_entries-take_key-size-requires : goal.judge_entries-take_key-size-requires
 judge_entries-take_key-size-requires t c =
     let l = c.loop-i.invariant.5 in
     let more = c.loop-i-test.true in
-    let e = c.in-Entry.e in
-    let found = entry_located c.locate_entry.ensures c.in-Entry.is in
+    let e = c.in-Ok.e in
+    let found = entry_located c.locate_entry.ensures c.in-Ok.is in
     key_asked l more e found
 
 pub judge_entries-returns-then-size-eq0 : goal.judge_entries-returns-then-size-eq0
 judge_entries-returns-then-size-eq0 t c =
     let l = c.loop-i.invariant.5 in
     let more = c.loop-i-test.true in
-    let e = c.in-Entry.e in
-    let found = entry_located c.locate_entry.ensures c.in-Entry.is in
+    let e = c.in-Ok.e in
+    let found = entry_located c.locate_entry.ensures c.in-Ok.is in
     let k = c.take_key-size in
     key_fails l more e found k.result k.new.buffer k.new.last k.ensures c.if-size-eq0.true
 
@@ -45,8 +45,8 @@ pub judge_entries-judge_gap-requires : goal.judge_entries-judge_gap-requires
 judge_entries-judge_gap-requires t c =
     let l = c.loop-i.invariant.5 in
     let more = c.loop-i-test.true in
-    let e = c.in-Entry.e in
-    let found = entry_located c.locate_entry.ensures c.in-Entry.is in
+    let e = c.in-Ok.e in
+    let found = entry_located c.locate_entry.ensures c.in-Ok.is in
     let k = c.take_key-size in (
       omega (arith, c.decreases),
       (
@@ -63,8 +63,8 @@ pub judge_entries-loop-i-preserved : goal.judge_entries-loop-i-preserved
 judge_entries-loop-i-preserved t c =
     let l = c.loop-i.invariant.5 in
     let more = c.loop-i-test.true in
-    let e = c.in-Entry.e in
-    let found = entry_located c.locate_entry.ensures c.in-Entry.is in
+    let e = c.in-Ok.e in
+    let found = entry_located c.locate_entry.ensures c.in-Ok.is in
     let k = c.take_key-size in
     let g = c.judge_gap in (
       omega (arith, g.auto, c.loop-i.invariant),
@@ -74,41 +74,41 @@ judge_entries-loop-i-preserved t c =
       omega (arith, g.auto, k.auto, c.loop-i.invariant),
       entries_go_on l more e found k.result k.new.buffer k.new.last k.ensures c.if-size-eq0.false
           (omega (arith, k.auto, l.room)) (omega (arith, k.auto, l.under.room))
-          g.result c.in-Whole.next g.new.pages g.new.counts g.new.keys g.new.tags
-          g.new.last g.ensures c.in-Whole.is,
+          g.result c.in-Some.next g.new.pages g.new.counts g.new.keys g.new.tags
+          g.new.last g.ensures c.in-Some.is,
     )
 
-pub judge_entries-shape_of-pages-in-Wrong : goal.judge_entries-shape_of-pages-in-Wrong
-judge_entries-shape_of-pages-in-Wrong t c = omega (arith, c.judge_gap.auto, c.loop-i.invariant)
+pub judge_entries-shape_of-pages-in-None : goal.judge_entries-shape_of-pages-in-None
+judge_entries-shape_of-pages-in-None t c = omega (arith, c.judge_gap.auto, c.loop-i.invariant)
 
-pub judge_entries-shape_of-counts-in-Wrong : goal.judge_entries-shape_of-counts-in-Wrong
-judge_entries-shape_of-counts-in-Wrong t c = omega (arith, c.judge_gap.auto, c.loop-i.invariant)
+pub judge_entries-shape_of-counts-in-None : goal.judge_entries-shape_of-counts-in-None
+judge_entries-shape_of-counts-in-None t c = omega (arith, c.judge_gap.auto, c.loop-i.invariant)
 
-pub judge_entries-shape_of-keys-in-Wrong : goal.judge_entries-shape_of-keys-in-Wrong
-judge_entries-shape_of-keys-in-Wrong t c = omega (arith, c.judge_gap.auto, c.loop-i.invariant)
+pub judge_entries-shape_of-keys-in-None : goal.judge_entries-shape_of-keys-in-None
+judge_entries-shape_of-keys-in-None t c = omega (arith, c.judge_gap.auto, c.loop-i.invariant)
 
-pub judge_entries-shape_of-tags-in-Wrong : goal.judge_entries-shape_of-tags-in-Wrong
-judge_entries-shape_of-tags-in-Wrong t c = omega (arith, c.judge_gap.auto, c.loop-i.invariant)
+pub judge_entries-shape_of-tags-in-None : goal.judge_entries-shape_of-tags-in-None
+judge_entries-shape_of-tags-in-None t c = omega (arith, c.judge_gap.auto, c.loop-i.invariant)
 
-pub judge_entries-shape_of-last-in-Wrong : goal.judge_entries-shape_of-last-in-Wrong
-judge_entries-shape_of-last-in-Wrong t c = omega (arith, c.judge_gap.auto, c.take_key-size.auto, c.loop-i.invariant)
+pub judge_entries-shape_of-last-in-None : goal.judge_entries-shape_of-last-in-None
+judge_entries-shape_of-last-in-None t c = omega (arith, c.judge_gap.auto, c.take_key-size.auto, c.loop-i.invariant)
 
-pub judge_entries-returns-in-Wrong : goal.judge_entries-returns-in-Wrong
-judge_entries-returns-in-Wrong t c =
+pub judge_entries-returns-in-None : goal.judge_entries-returns-in-None
+judge_entries-returns-in-None t c =
     let l = c.loop-i.invariant.5 in
     let more = c.loop-i-test.true in
-    let e = c.in-Entry.e in
-    let found = entry_located c.locate_entry.ensures c.in-Entry.is in
+    let e = c.in-Ok.e in
+    let found = entry_located c.locate_entry.ensures c.in-Ok.is in
     let k = c.take_key-size in
     let g = c.judge_gap in
     entry_gap_fails l more e found k.result k.new.buffer k.new.last k.ensures c.if-size-eq0.false
     (omega (arith, k.auto, l.room)) (omega (arith, k.auto, l.under.room))
     g.result g.new.pages g.new.counts g.new.keys g.new.tags
-    g.new.last g.ensures c.in-Wrong.is
+    g.new.last g.ensures c.in-None.is
 
-pub judge_entries-returns-in-EntryStop : goal.judge_entries-returns-in-EntryStop
-judge_entries-returns-in-EntryStop t c =
-    absurd (entry_found c.loop-i.invariant.5 c.loop-i-test.true c.locate_entry.result c.in-EntryStop.field-0 c.locate_entry.ensures c.in-EntryStop.is)
+pub judge_entries-returns-in-Err : goal.judge_entries-returns-in-Err
+judge_entries-returns-in-Err t c =
+    absurd (entry_found c.loop-i.invariant.5 c.loop-i-test.true c.locate_entry.result c.in-Err.field-0 c.locate_entry.ensures c.in-Err.is)
 
 pub judge_entries-returns : goal.judge_entries-returns
 judge_entries-returns t c = entries_end c.loop-i.invariant.5 (omega (arith, c.loop-i-test))
@@ -228,7 +228,7 @@ pub judge_tree-returns-then-left-eq0 : goal.judge_tree-returns-then-left-eq0
 judge_tree-returns-then-left-eq0 t c =
     let u = c.requires in record {
       says = tree_bare u.0 u.1 u.2 u.3 c.word_place-place.result c.word_place-place.ensures c.read_page.result c.read_page.ensures
-          c.in-Page.p c.in-Page.is c.if-entries-eq0.true c.if-left-eq0.true;
+          c.in-Ok.p c.in-Ok.is c.if-entries-eq0.true c.if-left-eq0.true;
       keeps = λ h. absurd (false≢true h);
     }
 
@@ -239,7 +239,7 @@ judge_tree-judge_gap-requires t c =
       (
         u.0,
         left_asked u.0 u.1 u.2 u.3 c.word_place-place.result c.word_place-place.ensures c.read_page.result c.read_page.ensures
-            c.in-Page.p c.in-Page.is c.args.states.now,
+            c.in-Ok.p c.in-Ok.is c.args.states.now,
       ),
     )
 
@@ -250,13 +250,13 @@ judge_tree-judge_entries-requires t c =
       omega (arith, c.decreases),
       (
         left_underway u.0 u.1 u.2 u.3 c.word_place-place.result c.word_place-place.ensures c.read_page.result c.read_page.ensures
-            c.in-Page.p c.in-Page.is
+            c.in-Ok.p c.in-Ok.is
             g.result g.new.pages g.new.counts g.new.keys g.new.tags
-            g.new.last g.ensures c.in-Whole.start c.in-Whole.is,
+            g.new.last g.ensures c.in-Some.start c.in-Some.is,
         entries_asked u.0 u.1 u.2 u.3 c.word_place-place.result c.word_place-place.ensures c.read_page.result c.read_page.ensures
-            c.in-Page.p c.in-Page.is
+            c.in-Ok.p c.in-Ok.is
             g.result g.new.pages g.new.counts g.new.keys g.new.tags
-            g.new.last g.ensures c.in-Whole.start c.in-Whole.is,
+            g.new.last g.ensures c.in-Some.start c.in-Some.is,
       ),
     )
 
@@ -269,11 +269,11 @@ judge_tree-note_page-requires t c =
     let g = c.judge_gap in
     let z = c.judge_entries in
     let few = tree_few u.0 u.1 u.2 u.3 c.word_place-place.result c.word_place-place.ensures c.read_page.result c.read_page.ensures
-    c.in-Page.p c.in-Page.is
+    c.in-Ok.p c.in-Ok.is
     g.result g.new.pages g.new.counts g.new.keys g.new.tags
-    g.new.last g.ensures c.in-Whole.start c.in-Whole.is
+    g.new.last g.ensures c.in-Some.start c.in-Some.is
     z.result z.new.pages z.new.counts z.new.keys z.new.tags
-    z.new.last z.ensures c.in-Whole-judge_entries.sum c.in-Whole-judge_entries.is in (
+    z.new.last z.ensures c.in-Some-judge_entries.sum c.in-Some-judge_entries.is in (
       omega (arith, g.auto, z.auto, u.0.summings.filed.page_room, u.1),
       omega (arith, g.auto, z.auto, u.0.summings.room, u.1),
       omega (arith, c.word_place-place.ensures),
@@ -282,69 +282,69 @@ judge_tree-note_page-requires t c =
       few,
     )
 
-pub judge_tree-shape_of-pages-in-Whole-judge_entries : goal.judge_tree-shape_of-pages-in-Whole-judge_entries
-judge_tree-shape_of-pages-in-Whole-judge_entries t c = omega (arith, c.judge_gap.auto, c.judge_entries.auto, c.note_page.auto)
+pub judge_tree-shape_of-pages-in-Some-judge_entries : goal.judge_tree-shape_of-pages-in-Some-judge_entries
+judge_tree-shape_of-pages-in-Some-judge_entries t c = omega (arith, c.judge_gap.auto, c.judge_entries.auto, c.note_page.auto)
 
-pub judge_tree-shape_of-counts-in-Whole-judge_entries : goal.judge_tree-shape_of-counts-in-Whole-judge_entries
-judge_tree-shape_of-counts-in-Whole-judge_entries t c = omega (arith, c.judge_gap.auto, c.judge_entries.auto, c.note_page.auto)
+pub judge_tree-shape_of-counts-in-Some-judge_entries : goal.judge_tree-shape_of-counts-in-Some-judge_entries
+judge_tree-shape_of-counts-in-Some-judge_entries t c = omega (arith, c.judge_gap.auto, c.judge_entries.auto, c.note_page.auto)
 
-pub judge_tree-shape_of-keys-in-Whole-judge_entries : goal.judge_tree-shape_of-keys-in-Whole-judge_entries
-judge_tree-shape_of-keys-in-Whole-judge_entries t c = omega (arith, c.judge_gap.auto, c.judge_entries.auto)
+pub judge_tree-shape_of-keys-in-Some-judge_entries : goal.judge_tree-shape_of-keys-in-Some-judge_entries
+judge_tree-shape_of-keys-in-Some-judge_entries t c = omega (arith, c.judge_gap.auto, c.judge_entries.auto)
 
-pub judge_tree-shape_of-tags-in-Whole-judge_entries : goal.judge_tree-shape_of-tags-in-Whole-judge_entries
-judge_tree-shape_of-tags-in-Whole-judge_entries t c = omega (arith, c.judge_gap.auto, c.judge_entries.auto)
+pub judge_tree-shape_of-tags-in-Some-judge_entries : goal.judge_tree-shape_of-tags-in-Some-judge_entries
+judge_tree-shape_of-tags-in-Some-judge_entries t c = omega (arith, c.judge_gap.auto, c.judge_entries.auto)
 
-pub judge_tree-returns-in-Whole-judge_entries : goal.judge_tree-returns-in-Whole-judge_entries
-judge_tree-returns-in-Whole-judge_entries t c =
+pub judge_tree-returns-in-Some-judge_entries : goal.judge_tree-returns-in-Some-judge_entries
+judge_tree-returns-in-Some-judge_entries t c =
     let u = c.requires in
     let g = c.judge_gap in
     let z = c.judge_entries in record {
       says = tree_whole u.0 u.1 u.2 u.3 c.word_place-place.result c.word_place-place.ensures c.read_page.result c.read_page.ensures
-          c.in-Page.p c.in-Page.is
+          c.in-Ok.p c.in-Ok.is
           g.result g.new.pages g.new.counts g.new.keys g.new.tags
-          g.new.last g.ensures c.in-Whole.start c.in-Whole.is
+          g.new.last g.ensures c.in-Some.start c.in-Some.is
           z.result z.new.pages z.new.counts z.new.keys z.new.tags
-          z.new.last z.ensures c.in-Whole-judge_entries.sum c.in-Whole-judge_entries.is
+          z.new.last z.ensures c.in-Some-judge_entries.sum c.in-Some-judge_entries.is
           (elim c.if-entries-eq0.branch [ judge_tree-then-entries-eq0+else-left-eq0 w ↦ inl (w.if-entries-eq0.true, w.if-left-eq0.false) | judge_tree-else-entries-eq0 w ↦ inr w.if-entries-eq0.false ])
           (elim c.if-note-gt0.branch [ judge_tree-then-note-gt0+else-note-le-DEEPEST w ↦ λ k. omega (arith, w.if-note-le-DEEPEST.false, c.word_note-note.ensures) | judge_tree-else-note-gt0 w ↦ λ k. absurd (omega (arith, w.if-note-gt0.false, c.word_note-note.ensures)) ])
           c.note_page.new.pages c.note_page.new.counts c.note_page.ensures;
       keeps = λ h. tree_kept u.0 u.1 u.2 u.3 c.word_place-place.result c.word_place-place.ensures c.read_page.result c.read_page.ensures
-          c.in-Page.p c.in-Page.is
+          c.in-Ok.p c.in-Ok.is
           g.result g.new.pages g.new.counts g.new.keys g.new.tags
-          g.new.last g.ensures c.in-Whole.start c.in-Whole.is
+          g.new.last g.ensures c.in-Some.start c.in-Some.is
           z.result z.new.pages z.new.counts z.new.keys z.new.tags
-          z.new.last z.ensures c.in-Whole-judge_entries.sum c.in-Whole-judge_entries.is;
+          z.new.last z.ensures c.in-Some-judge_entries.sum c.in-Some-judge_entries.is;
     }
 
-pub judge_tree-returns-in-Wrong-judge_entries : goal.judge_tree-returns-in-Wrong-judge_entries
-judge_tree-returns-in-Wrong-judge_entries t c =
+pub judge_tree-returns-in-None-judge_entries : goal.judge_tree-returns-in-None-judge_entries
+judge_tree-returns-in-None-judge_entries t c =
     let u = c.requires in
     let g = c.judge_gap in
     let z = c.judge_entries in record {
       says = tree_no_entries u.0 u.1 u.2 u.3 c.word_place-place.result c.word_place-place.ensures c.read_page.result c.read_page.ensures
-          c.in-Page.p c.in-Page.is
+          c.in-Ok.p c.in-Ok.is
           g.result g.new.pages g.new.counts g.new.keys g.new.tags
-          g.new.last g.ensures c.in-Whole.start c.in-Whole.is
+          g.new.last g.ensures c.in-Some.start c.in-Some.is
           z.result z.new.pages z.new.counts z.new.keys z.new.tags
-          z.new.last z.ensures c.in-Wrong-judge_entries.is;
+          z.new.last z.ensures c.in-None-judge_entries.is;
       keeps = λ h. absurd (false≢true h);
     }
 
-pub judge_tree-returns-in-Wrong : goal.judge_tree-returns-in-Wrong
-judge_tree-returns-in-Wrong t c =
+pub judge_tree-returns-in-None : goal.judge_tree-returns-in-None
+judge_tree-returns-in-None t c =
     let u = c.requires in
     let g = c.judge_gap in record {
       says = tree_no_gap u.0 u.1 u.2 u.3 c.word_place-place.result c.word_place-place.ensures c.read_page.result c.read_page.ensures
-          c.in-Page.p c.in-Page.is
+          c.in-Ok.p c.in-Ok.is
           g.result g.new.pages g.new.counts g.new.keys g.new.tags
-          g.new.last g.ensures c.in-Wrong.is;
+          g.new.last g.ensures c.in-None.is;
       keeps = λ h. absurd (false≢true h);
     }
 
-pub judge_tree-returns-in-PageStop : goal.judge_tree-returns-in-PageStop
-judge_tree-returns-in-PageStop t c =
+pub judge_tree-returns-in-Err : goal.judge_tree-returns-in-Err
+judge_tree-returns-in-Err t c =
     let u = c.requires in record {
       says = tree_stops u.0 u.1 u.2 u.3 c.word_place-place.result c.word_place-place.ensures c.read_page.result c.read_page.ensures
-          c.in-PageStop.field-0 c.in-PageStop.is;
+          c.in-Err.field-0 c.in-Err.is;
       keeps = λ h. absurd (false≢true h);
     }

@@ -14,7 +14,7 @@ returns-then-p-ne0 c =
     let pre = c.requires in
     let u = root_underway a.states.now a.sequence.now a.labels.now a.pages.now a.counts.now a.n a.keys.now a.tags.now a.last.now
     (bytes_of_lem a.sequence.now (λ i h. omega (arith, c.type_inv.sequence i))) pre.0.0 pre.0.1 pre.0.2 pre.3 pre.4 in record {
-      says = root_no_entry u pre.1 pre.2 c.word_place-place.result c.word_place-place.ensures c.read_page.result c.read_page.ensures c.in-Page.p c.in-Page.is c.if-p-eq0.true (omega (arith, c.if-p-ne0));
+      says = root_no_entry u pre.1 pre.2 c.word_place-place.result c.word_place-place.ensures c.read_page.result c.read_page.ensures c.in-Ok.p c.in-Ok.is c.if-p-eq0.true (omega (arith, c.if-p-ne0));
       keeps = λ raws w h. absurd (false≢true h);
     }
 
@@ -36,7 +36,7 @@ returns-then-note-eq0 c =
     let pre = c.requires in
     let u = root_underway a.states.now a.sequence.now a.labels.now a.pages.now a.counts.now a.n a.keys.now a.tags.now a.last.now
     (bytes_of_lem a.sequence.now (λ i h. omega (arith, c.type_inv.sequence i))) pre.0.0 pre.0.1 pre.0.2 pre.3 pre.4 in record {
-      says = root_alone u pre.1 pre.2 c.word_place-place.result c.word_place-place.ensures c.read_page.result c.read_page.ensures c.in-Page.p c.in-Page.is c.if-p-eq0.true (omega (arith, c.if-p-ne0)) (omega (arith, c.if-note-eq0.true, c.word_note-note.ensures)) c.note_page.new.pages c.note_page.new.counts c.note_page.ensures;
+      says = root_alone u pre.1 pre.2 c.word_place-place.result c.word_place-place.ensures c.read_page.result c.read_page.ensures c.in-Ok.p c.in-Ok.is c.if-p-eq0.true (omega (arith, c.if-p-ne0)) (omega (arith, c.if-note-eq0.true, c.word_note-note.ensures)) c.note_page.new.pages c.note_page.new.counts c.note_page.ensures;
       keeps = λ raws w h. root_keeps a.states.now a.sequence.now a.labels.now a.pages.now a.counts.now a.n a.keys.now a.tags.now u.kept raws w;
     }
 
@@ -46,7 +46,7 @@ returns-else-note-eq0 c =
     let pre = c.requires in
     let u = root_underway a.states.now a.sequence.now a.labels.now a.pages.now a.counts.now a.n a.keys.now a.tags.now a.last.now
     (bytes_of_lem a.sequence.now (λ i h. omega (arith, c.type_inv.sequence i))) pre.0.0 pre.0.1 pre.0.2 pre.3 pre.4 in record {
-      says = root_reached u pre.1 pre.2 c.word_place-place.result c.word_place-place.ensures c.read_page.result c.read_page.ensures c.in-Page.p c.in-Page.is c.if-p-eq0.true (omega (arith, c.if-p-ne0)) (λ z. omega (arith, z, c.if-note-eq0.false, c.word_note-note.ensures));
+      says = root_reached u pre.1 pre.2 c.word_place-place.result c.word_place-place.ensures c.read_page.result c.read_page.ensures c.in-Ok.p c.in-Ok.is c.if-p-eq0.true (omega (arith, c.if-p-ne0)) (λ z. omega (arith, z, c.if-note-eq0.false, c.word_note-note.ensures));
       keeps = λ raws w h. root_keeps a.states.now a.sequence.now a.labels.now a.pages.now a.counts.now a.n a.keys.now a.tags.now u.kept raws w;
     }
 
@@ -56,7 +56,7 @@ returns-then-note-gt0 c =
     let pre = c.requires in
     let u = root_underway a.states.now a.sequence.now a.labels.now a.pages.now a.counts.now a.n a.keys.now a.tags.now a.last.now
     (bytes_of_lem a.sequence.now (λ i h. omega (arith, c.type_inv.sequence i))) pre.0.0 pre.0.1 pre.0.2 pre.3 pre.4 in record {
-      says = root_known u pre.1 pre.2 c.word_place-place.result c.word_place-place.ensures c.read_page.result c.read_page.ensures c.in-Page.p c.in-Page.is c.if-p-eq0.false (omega (arith, c.if-note-gt0.true, c.word_note-note.ensures));
+      says = root_known u pre.1 pre.2 c.word_place-place.result c.word_place-place.ensures c.read_page.result c.read_page.ensures c.in-Ok.p c.in-Ok.is c.if-p-eq0.false (omega (arith, c.if-note-gt0.true, c.word_note-note.ensures));
       keeps = λ raws w h. root_keeps a.states.now a.sequence.now a.labels.now a.pages.now a.counts.now a.n a.keys.now a.tags.now u.kept raws w;
     }
 
@@ -66,19 +66,19 @@ returns-then-size-gt-LONGEST_KEY c =
     let pre = c.requires in
     let u = root_underway a.states.now a.sequence.now a.labels.now a.pages.now a.counts.now a.n a.keys.now a.tags.now a.last.now
     (bytes_of_lem a.sequence.now (λ i h. omega (arith, c.type_inv.sequence i))) pre.0.0 pre.0.1 pre.0.2 pre.3 pre.4 in
-    let found = entry_located c.locate_entry.ensures c.in-Entry.is in record {
-      says = root_long u pre.1 pre.2 c.word_place-place.result c.word_place-place.ensures c.read_page.result c.read_page.ensures c.in-Page.p c.in-Page.is c.if-p-eq0.false c.in-Entry.e found (omega (arith, c.if-size-gt-LONGEST_KEY.true));
+    let found = entry_located c.locate_entry.ensures c.in-Ok-locate_entry.is in record {
+      says = root_long u pre.1 pre.2 c.word_place-place.result c.word_place-place.ensures c.read_page.result c.read_page.ensures c.in-Ok.p c.in-Ok.is c.if-p-eq0.false c.in-Ok-locate_entry.e found (omega (arith, c.if-size-gt-LONGEST_KEY.true));
       keeps = λ raws w h. absurd (false≢true h);
     }
 
 pub overflow_add-to : goal.overflow_add-to
 overflow_add-to c =
-    let found = entry_located c.locate_entry.ensures c.in-Entry.is in
+    let found = entry_located c.locate_entry.ensures c.in-Ok-locate_entry.is in
     omega (arith, found.inside, found.within, c.requires.0.1.filed.short)
 
 pub slice_bounds-layer_of-end : goal.slice_bounds-layer_of-end
 slice_bounds-layer_of-end c =
-    let found = entry_located c.locate_entry.ensures c.in-Entry.is in
+    let found = entry_located c.locate_entry.ensures c.in-Ok-locate_entry.is in
     omega (arith, found.inside, found.within)
 
 pub judge_tree-requires : goal.judge_tree-requires
@@ -87,7 +87,7 @@ judge_tree-requires c =
     let pre = c.requires in
     let u = root_underway a.states.now a.sequence.now a.labels.now a.pages.now a.counts.now a.n a.keys.now a.tags.now a.last.now
     (bytes_of_lem a.sequence.now (λ i h. omega (arith, c.type_inv.sequence i))) pre.0.0 pre.0.1 pre.0.2 pre.3 pre.4 in
-    (u, pre.1, omega (arith, c.layer_of-layer.ensures, layer_le (take (c.in-Entry.e.remainder + c.in-Entry.e.size - c.in-Entry.e.remainder) (drop c.in-Entry.e.remainder a.sequence.now))), pre.2)
+    (u, pre.1, omega (arith, c.layer_of-layer.ensures, layer_le (take (c.in-Ok-locate_entry.e.remainder + c.in-Ok-locate_entry.e.size - c.in-Ok-locate_entry.e.remainder) (drop c.in-Ok-locate_entry.e.remainder a.sequence.now))), pre.2)
 
 pub returns-else-size-gt-LONGEST_KEY : goal.returns-else-size-gt-LONGEST_KEY
 returns-else-size-gt-LONGEST_KEY c =
@@ -95,24 +95,24 @@ returns-else-size-gt-LONGEST_KEY c =
     let pre = c.requires in
     let u = root_underway a.states.now a.sequence.now a.labels.now a.pages.now a.counts.now a.n a.keys.now a.tags.now a.last.now
     (bytes_of_lem a.sequence.now (λ i h. omega (arith, c.type_inv.sequence i))) pre.0.0 pre.0.1 pre.0.2 pre.3 pre.4 in
-    let found = entry_located c.locate_entry.ensures c.in-Entry.is in
+    let found = entry_located c.locate_entry.ensures c.in-Ok-locate_entry.is in
     let t = c.judge_tree in record {
-      says = root_tree u pre.1 pre.2 c.word_place-place.result c.word_place-place.ensures c.read_page.result c.read_page.ensures c.in-Page.p c.in-Page.is c.if-p-eq0.false c.in-Entry.e found c.layer_of-layer.result c.layer_of-layer.ensures t.result t.new.pages t.new.counts t.ensures.says;
+      says = root_tree u pre.1 pre.2 c.word_place-place.result c.word_place-place.ensures c.read_page.result c.read_page.ensures c.in-Ok.p c.in-Ok.is c.if-p-eq0.false c.in-Ok-locate_entry.e found c.layer_of-layer.result c.layer_of-layer.ensures t.result t.new.pages t.new.counts t.ensures.says;
       keeps = λ raws w h. root_keeps a.states.now a.sequence.now a.labels.now a.pages.now a.counts.now a.n t.new.keys t.new.tags (t.ensures.keeps h) raws w;
     }
 
-pub returns-in-EntryStop : goal.returns-in-EntryStop
-returns-in-EntryStop c =
+pub returns-in-Err-locate_entry : goal.returns-in-Err-locate_entry
+returns-in-Err-locate_entry c =
     let a = c.args in
     let pre = c.requires in
     let u = root_underway a.states.now a.sequence.now a.labels.now a.pages.now a.counts.now a.n a.keys.now a.tags.now a.last.now
     (bytes_of_lem a.sequence.now (λ i h. omega (arith, c.type_inv.sequence i))) pre.0.0 pre.0.1 pre.0.2 pre.3 pre.4 in
-    absurd (root_entry_there u pre.1 pre.2 c.word_place-place.result c.word_place-place.ensures c.read_page.result c.read_page.ensures c.in-Page.p c.in-Page.is c.if-p-eq0.false c.locate_entry.result c.in-EntryStop.field-0 c.locate_entry.ensures c.in-EntryStop.is)
+    absurd (root_entry_there u pre.1 pre.2 c.word_place-place.result c.word_place-place.ensures c.read_page.result c.read_page.ensures c.in-Ok.p c.in-Ok.is c.if-p-eq0.false c.locate_entry.result c.in-Err-locate_entry.field-0 c.locate_entry.ensures c.in-Err-locate_entry.is)
 
-pub returns-in-PageStop : goal.returns-in-PageStop
-returns-in-PageStop c =
+pub returns-in-Err : goal.returns-in-Err
+returns-in-Err c =
     let a = c.args in
     let pre = c.requires in
     let u = root_underway a.states.now a.sequence.now a.labels.now a.pages.now a.counts.now a.n a.keys.now a.tags.now a.last.now
     (bytes_of_lem a.sequence.now (λ i h. omega (arith, c.type_inv.sequence i))) pre.0.0 pre.0.1 pre.0.2 pre.3 pre.4 in
-    absurd (root_stops u pre.1 pre.2 c.word_place-place.result c.word_place-place.ensures c.read_page.result c.read_page.ensures c.in-PageStop.field-0 c.in-PageStop.is)
+    absurd (root_stops u pre.1 pre.2 c.word_place-place.result c.word_place-place.ensures c.read_page.result c.read_page.ensures c.in-Err.field-0 c.in-Err.is)

@@ -7,12 +7,12 @@ use Rattle.tree_keys.proofs.own_first.Goals as goal
 pub returns-then-count-eq0 : goal.returns-then-count-eq0
 returns-then-count-eq0 c = search (rules, no_entries)
 
-pub returns-in-Entry : goal.returns-in-Entry
-returns-in-Entry c =
+pub returns-in-Ok : goal.returns-in-Ok
+returns-in-Ok c =
     let slice = bytes_of_lem c.args.sequence.now (λ i h. omega (arith, c.type_inv.sequence i)) in
     search (rules, first_located, slice)
 
-pub returns-in-EntryStop : goal.returns-in-EntryStop
-returns-in-EntryStop c =
+pub returns-in-Err : goal.returns-in-Err
+returns-in-Err c =
     let slice = bytes_of_lem c.args.sequence.now (λ i h. omega (arith, c.type_inv.sequence i)) in
     search (rules, first_lost, slice)

@@ -4,10 +4,10 @@ use Rattle.bytestring.proofs.Tools.{bytes_of_lem}
 use Rattle.tree_keys.proofs.Starts.{first_not_there, first_there}
 use Rattle.tree_keys.proofs.page_first.Goals as goal
 
-pub returns-in-Number : goal.returns-in-Number
-returns-in-Number c =
+pub returns-in-Ok : goal.returns-in-Ok
+returns-in-Ok c =
     let slice = bytes_of_lem c.args.sequence.now (λ i h. omega (arith, c.type_inv.sequence i)) in
     search (rules, first_there, slice)
 
-pub returns-in-NumberStop : goal.returns-in-NumberStop
-returns-in-NumberStop c = search (rules, first_not_there)
+pub returns-in-Err : goal.returns-in-Err
+returns-in-Err c = search (rules, first_not_there)

@@ -13,8 +13,8 @@ loop-j-init c =
 pub extend_key-size-requires : goal.extend_key-size-requires
 extend_key-size-requires c = (search (rules, remainder_within), search (rules, few_shared), search (rules, few_left))
 
-pub returns-in-EntryStop : goal.returns-in-EntryStop
-returns-in-EntryStop c =
+pub returns-in-Err : goal.returns-in-Err
+returns-in-Err c =
     record {
       within = search rules;
       says = search (rules, spelling_stops);

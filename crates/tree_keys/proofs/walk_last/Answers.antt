@@ -14,8 +14,8 @@ returns-then-count-gt0 c =
       says = search (rules, entries_end, slice);
     }
 
-pub spell_last-requires-in-Number : goal.spell_last-requires-in-Number
-spell_last-requires-in-Number c = ((c.read_left-left.ensures 0).within, search rules)
+pub spell_last-requires-in-Ok : goal.spell_last-requires-in-Ok
+spell_last-requires-in-Ok c = ((c.read_left-left.ensures 0).within, search rules)
 
 pub returns-else-count-gt0 : goal.returns-else-count-gt0
 returns-else-count-gt0 c =
@@ -24,8 +24,8 @@ returns-else-count-gt0 c =
       says = search (rules, page_end_lem, slice);
     }
 
-pub returns-in-NumberStop : goal.returns-in-NumberStop
-returns-in-NumberStop c =
+pub returns-in-Err : goal.returns-in-Err
+returns-in-Err c =
     record {
       within = λ z. absurd (omega arith);
       says = search (rules, page_end_lost);

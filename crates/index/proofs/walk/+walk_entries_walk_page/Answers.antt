@@ -1,9 +1,11 @@
 use Prim.Native.Nat.{◌+◌, ◌-◌, ◌<◌}
-use mathlib.Core.Path.{sym}
+use mathlib.Core.Path.{sym, subst}
 use native.Mathlib.Omega.{arith}
 use lib.ListN.{length}
 use lib.Dec.{eqb}
 use borrow.Author.Rules.{rules}
+use Rattle.std.specs.Prelude.{Err}
+use Rattle.index.specs.Walk.{EntriesSay, PageSays}
 use Rattle.index.proofs.EntrySteps.{located_is, page_is, says_is, onward_start, onward_end, onward_there, onward_record, onward_none, onward_page, onward_stopped}
 use Rattle.index.proofs.PageSteps.{too_deep, deep_end, page_stops, page_none, page_left, left_stopped, page_bare, page_on, page_far, entries_counted, least_of}
 use Rattle.index.proofs.walk.+walk_entries_walk_page.Goals as goal
@@ -15,24 +17,21 @@ walk_entries-loop-i-init t c =
 
 pub walk_entries-prefix_fits-fits-requires : goal.walk_entries-prefix_fits-fits-requires
 walk_entries-prefix_fits-fits-requires t c =
-    let found = located_is c.args.s.now c.loop-i.at c.locate_entry.ensures c.in-Entry.is in
+    let found = located_is c.args.s.now c.loop-i.at c.locate_entry.ensures c.in_ok-e.was in
     omega (arith, found.inside, found.within)
 
 pub walk_entries-extend_key-size-requires : goal.walk_entries-extend_key-size-requires
 walk_entries-extend_key-size-requires t c =
-    let found = located_is c.args.s.now c.loop-i.at c.locate_entry.ensures c.in-Entry.is in
+    let found = located_is c.args.s.now c.loop-i.at c.locate_entry.ensures c.in_ok-e.was in
     (omega (arith, found.inside, found.within), found.shares, found.size)
-
-pub walk_entries-overflow_add-i : goal.walk_entries-overflow_add-i
-walk_entries-overflow_add-i t c = omega (arith, c.loop-i-test, c.requires)
 
 pub walk_entries-loop-i-preserved-then-link-eq0 : goal.walk_entries-loop-i-preserved-then-link-eq0
 walk_entries-loop-i-preserved-then-link-eq0 t c =
     let a = c.args in
     let l = c.loop-i in
     let more = c.loop-i-test.true in
-    let e = c.in-Entry.e in
-    let found = located_is a.s.now l.at c.locate_entry.ensures c.in-Entry.is in
+    let e = c.in_ok-e.e in
+    let found = located_is a.s.now l.at c.locate_entry.ensures c.in_ok-e.was in
     let f = c.prefix_fits-fits in
     let k = c.extend_key-size in
     let g = c.take_record-one in
@@ -46,8 +45,8 @@ walk_entries-walk_page-requires t c =
     let a = c.args in
     let l = c.loop-i in
     let more = c.loop-i-test.true in
-    let e = c.in-Entry.e in
-    let found = located_is a.s.now l.at c.locate_entry.ensures c.in-Entry.is in
+    let e = c.in_ok-e.e in
+    let found = located_is a.s.now l.at c.locate_entry.ensures c.in_ok-e.was in
     let f = c.prefix_fits-fits in
     let k = c.extend_key-size in
     let g = c.take_record-one in
@@ -75,39 +74,32 @@ walk_entries-loop-i-preserved t c =
     let a = c.args in
     let l = c.loop-i in
     let more = c.loop-i-test.true in
-    let e = c.in-Entry.e in
-    let found = located_is a.s.now l.at c.locate_entry.ensures c.in-Entry.is in
+    let e = c.in_ok-e.e in
+    let found = located_is a.s.now l.at c.locate_entry.ensures c.in_ok-e.was in
     let f = c.prefix_fits-fits in
     let k = c.extend_key-size in
     let g = c.take_record-one in
     let w = c.walk_page in
-    (omega (arith, w.auto, g.auto, l.invariant), omega (arith, w.auto, l.invariant), omega (arith, w.auto, g.auto, l.invariant), onward_page l.invariant.3 more c.requires.1 e found f.result f.ensures.says f.ensures.short k.new.buffer k.result k.ensures g.new.index g.new.last g.result g.ensures (omega (arith, k.auto, l.invariant.3.room)) c.if-link-eq0.false w.new.index w.new.row w.new.last w.result c.in-Whole.next w.ensures c.in-Whole.is)
+    (omega (arith, w.auto, g.auto, l.invariant), omega (arith, w.auto, l.invariant), omega (arith, w.auto, g.auto, l.invariant), onward_page l.invariant.3 more c.requires.1 e found f.result f.ensures.says f.ensures.short k.new.buffer k.result k.ensures g.new.index g.new.last g.result g.ensures (omega (arith, k.auto, l.invariant.3.room)) c.if-link-eq0.false w.new.index w.new.row w.new.last w.result c.in_ok-next.next w.ensures c.in_ok-next.was)
 
-pub walk_entries-shape_of-index-in-Stopped : goal.walk_entries-shape_of-index-in-Stopped
-walk_entries-shape_of-index-in-Stopped t c = omega (arith, c.walk_page.auto, c.take_record-one.auto, c.loop-i.invariant)
-
-pub walk_entries-shape_of-row-in-Stopped : goal.walk_entries-shape_of-row-in-Stopped
-walk_entries-shape_of-row-in-Stopped t c = omega (arith, c.walk_page.auto, c.take_record-one.auto, c.loop-i.invariant)
-
-pub walk_entries-shape_of-last-in-Stopped : goal.walk_entries-shape_of-last-in-Stopped
-walk_entries-shape_of-last-in-Stopped t c = omega (arith, c.walk_page.auto, c.take_record-one.auto, c.loop-i.invariant)
-
-pub walk_entries-returns-in-Stopped : goal.walk_entries-returns-in-Stopped
-walk_entries-returns-in-Stopped t c =
+pub walk_entries-returns-in_err-next : goal.walk_entries-returns-in_err-next
+walk_entries-returns-in_err-next t c =
     let a = c.args in
     let l = c.loop-i in
     let more = c.loop-i-test.true in
-    let e = c.in-Entry.e in
-    let found = located_is a.s.now l.at c.locate_entry.ensures c.in-Entry.is in
+    let e = c.in_ok-e.e in
+    let found = located_is a.s.now l.at c.locate_entry.ensures c.in_ok-e.was in
     let f = c.prefix_fits-fits in
     let k = c.extend_key-size in
     let g = c.take_record-one in
     let w = c.walk_page in
-    onward_stopped l.invariant.3 more c.requires.1 e found f.result f.ensures.says f.ensures.short k.new.buffer k.result k.ensures g.new.index g.new.last g.result g.ensures c.if-link-eq0.false w.new.index w.new.row w.new.last w.result c.in-Stopped.stop w.ensures c.in-Stopped.is
+    subst (λ r. EntriesSay c.args.s.now c.args.index.now c.args.row.now c.args.last.now c.args.level c.args.page c.args.first c.args.n c.args.st r w.new.index w.new.row w.new.last) {x = Err c.in_err-next.field-0.0} {y = c.from_residual-in_err-next.result} (search rules)
+    (onward_stopped l.invariant.3 more c.requires.1 e found f.result f.ensures.says f.ensures.short k.new.buffer k.result k.ensures g.new.index g.new.last g.result g.ensures c.if-link-eq0.false w.new.index w.new.row w.new.last w.result c.in_err-next.field-0.0 w.ensures c.in_err-next.was)
 
-pub walk_entries-returns-in-EntryStop : goal.walk_entries-returns-in-EntryStop
-walk_entries-returns-in-EntryStop t c =
-    onward_there c.loop-i.invariant.3 c.loop-i-test.true c.requires.1 c.locate_entry.result c.in-EntryStop.stop c.locate_entry.ensures c.in-EntryStop.is
+pub walk_entries-returns-in_err-e : goal.walk_entries-returns-in_err-e
+walk_entries-returns-in_err-e t c =
+    subst (λ r. EntriesSay c.args.s.now c.args.index.now c.args.row.now c.args.last.now c.args.level c.args.page c.args.first c.args.n c.args.st r c.loop-i.index c.loop-i.row c.loop-i.last) {x = Err c.in_err-e.field-0.0} {y = c.from_residual.result} (search rules)
+    (onward_there c.loop-i.invariant.3 c.loop-i-test.true c.requires.1 c.locate_entry.result c.in_err-e.field-0.0 c.locate_entry.ensures c.in_err-e.was)
 
 pub walk_entries-returns : goal.walk_entries-returns
 walk_entries-returns t c = onward_end c.loop-i.invariant.3 (omega (arith, c.loop-i-test))
@@ -127,8 +119,8 @@ walk_page-returns-then-left-eq0 t c =
     let a = c.args in
     let pre = c.requires in
     let low : a.level < 129 = omega (arith, c.if-level-ge-DEEPEST) in
-    let p = c.in-Page.p in
-    let here = page_is a.s.now a.st.next c.read_page.ensures c.in-Page.is in
+    let p = c.in_ok-p.p in
+    let here = page_is a.s.now a.st.next c.read_page.ensures c.in_ok-p.was in
     let o = c.take_page-cur.ensures in
     let cur = c.take_page-cur.result in
     page_bare a.s.now a.index.now a.row.now a.last.now a.level a.link a.above a.st cur p pre.1 low here o c.if-n-eq0.true c.if-left-eq0.true
@@ -138,8 +130,8 @@ walk_page-walk_page-requires t c =
     let a = c.args in
     let pre = c.requires in
     let low : a.level < 129 = omega (arith, c.if-level-ge-DEEPEST) in
-    let p = c.in-Page.p in
-    let here = page_is a.s.now a.st.next c.read_page.ensures c.in-Page.is in
+    let p = c.in_ok-p.p in
+    let here = page_is a.s.now a.st.next c.read_page.ensures c.in_ok-p.was in
     let o = c.take_page-cur.ensures in
     let cur = c.take_page-cur.result in
     let left = here.left (omega (arith, c.if-left-eq0)) in (
@@ -162,8 +154,8 @@ walk_page-returns-then-n-eq0 t c =
     let a = c.args in
     let pre = c.requires in
     let low : a.level < 129 = omega (arith, c.if-level-ge-DEEPEST) in
-    let p = c.in-Page.p in
-    let here = page_is a.s.now a.st.next c.read_page.ensures c.in-Page.is in
+    let p = c.in_ok-p.p in
+    let here = page_is a.s.now a.st.next c.read_page.ensures c.in_ok-p.was in
     let o = c.take_page-cur.ensures in
     let cur = c.take_page-cur.result in
     let w = c.walk_page in
@@ -174,8 +166,8 @@ walk_page-walk_entries-walked-requires t c =
     let a = c.args in
     let pre = c.requires in
     let low : a.level < 129 = omega (arith, c.if-level-ge-DEEPEST) in
-    let p = c.in-Page.p in
-    let here = page_is a.s.now a.st.next c.read_page.ensures c.in-Page.is in
+    let p = c.in_ok-p.p in
+    let here = page_is a.s.now a.st.next c.read_page.ensures c.in_ok-p.was in
     let o = c.take_page-cur.ensures in
     let cur = c.take_page-cur.result in
     let n = c.enter-entered.ensures in (
@@ -198,8 +190,8 @@ walk_page-leave-requires t c =
     let a = c.args in
     let pre = c.requires in
     let low : a.level < 129 = omega (arith, c.if-level-ge-DEEPEST) in
-    let p = c.in-Page.p in
-    let here = page_is a.s.now a.st.next c.read_page.ensures c.in-Page.is in
+    let p = c.in_ok-p.p in
+    let here = page_is a.s.now a.st.next c.read_page.ensures c.in_ok-p.was in
     let o = c.take_page-cur.ensures in
     let cur = c.take_page-cur.result in
     let n = c.enter-entered in
@@ -217,8 +209,8 @@ walk_page-returns-then-left-eq0-2 t c =
     let a = c.args in
     let pre = c.requires in
     let low : a.level < 129 = omega (arith, c.if-level-ge-DEEPEST) in
-    let p = c.in-Page.p in
-    let here = page_is a.s.now a.st.next c.read_page.ensures c.in-Page.is in
+    let p = c.in_ok-p.p in
+    let here = page_is a.s.now a.st.next c.read_page.ensures c.in_ok-p.was in
     let o = c.take_page-cur.ensures in
     let cur = c.take_page-cur.result in
     let n = c.enter-entered in
@@ -227,13 +219,13 @@ walk_page-returns-then-left-eq0-2 t c =
     says_is a.s.now a.index.now a.row.now a.last.now a.level a.link a.above a.st w.new.index z.new.row w.new.last
     (page_none a.s.now a.index.now a.row.now a.last.now a.level a.link a.above a.st cur p pre.1 low here o n.result n.ensures c.if-n-eq0.false c.if-left-eq0-2.true w.result w.new.index w.new.row w.new.last z.new.row w.ensures z.ensures.noted) (sym z.ensures.same)
 
-pub walk_page-walk_page-requires-in-Page : goal.walk_page-walk_page-requires-in-Page
-walk_page-walk_page-requires-in-Page t c =
+pub walk_page-walk_page-requires-2 : goal.walk_page-walk_page-requires-2
+walk_page-walk_page-requires-2 t c =
     let a = c.args in
     let pre = c.requires in
     let low : a.level < 129 = omega (arith, c.if-level-ge-DEEPEST) in
-    let p = c.in-Page.p in
-    let here = page_is a.s.now a.st.next c.read_page.ensures c.in-Page.is in
+    let p = c.in_ok-p.p in
+    let here = page_is a.s.now a.st.next c.read_page.ensures c.in_ok-p.was in
     let o = c.take_page-cur.ensures in
     let cur = c.take_page-cur.result in
     let n = c.enter-entered.ensures in
@@ -252,18 +244,18 @@ walk_page-walk_page-requires-in-Page t c =
       ),
     )
 
-pub walk_page-walk_entries-walked-requires-in-Whole : goal.walk_page-walk_entries-walked-requires-in-Whole
-walk_page-walk_entries-walked-requires-in-Whole t c =
+pub walk_page-walk_entries-walked-requires-2 : goal.walk_page-walk_entries-walked-requires-2
+walk_page-walk_entries-walked-requires-2 t c =
     let a = c.args in
     let pre = c.requires in
     let low : a.level < 129 = omega (arith, c.if-level-ge-DEEPEST) in
-    let p = c.in-Page.p in
-    let here = page_is a.s.now a.st.next c.read_page.ensures c.in-Page.is in
+    let p = c.in_ok-p.p in
+    let here = page_is a.s.now a.st.next c.read_page.ensures c.in_ok-p.was in
     let o = c.take_page-cur.ensures in
     let cur = c.take_page-cur.result in
     let n = c.enter-entered in
-    let w = c.walk_page-in-Page in
-    let far = page_far a.s.now a.index.now a.row.now a.last.now (a.level + 1) p.left n.result w.new.index w.new.row w.new.last w.result c.in-Whole.next c.if-left-eq0-2.false (omega (arith, here.left (omega (arith, c.if-left-eq0-2)), here.whole.within)) w.ensures c.in-Whole.is in (
+    let w = c.walk_page-2 in
+    let far = page_far a.s.now a.index.now a.row.now a.last.now (a.level + 1) p.left n.result w.new.index w.new.row w.new.last w.result c.in_ok-next.next c.if-left-eq0-2.false (omega (arith, here.left (omega (arith, c.if-left-eq0-2)), here.whole.within)) w.ensures c.in_ok-next.was in (
       omega (arith, far, n.ensures, o.next, here.whole, pre),
       (
         omega (arith, pre),
@@ -278,57 +270,59 @@ walk_page-walk_entries-walked-requires-in-Whole t c =
       ),
     )
 
-pub walk_page-leave-requires-in-Whole : goal.walk_page-leave-requires-in-Whole
-walk_page-leave-requires-in-Whole t c =
+pub walk_page-leave-requires-2 : goal.walk_page-leave-requires-2
+walk_page-leave-requires-2 t c =
     let a = c.args in
     let pre = c.requires in
     let low : a.level < 129 = omega (arith, c.if-level-ge-DEEPEST) in
-    let p = c.in-Page.p in
-    let here = page_is a.s.now a.st.next c.read_page.ensures c.in-Page.is in
+    let p = c.in_ok-p.p in
+    let here = page_is a.s.now a.st.next c.read_page.ensures c.in_ok-p.was in
     let o = c.take_page-cur.ensures in
     let cur = c.take_page-cur.result in
     let n = c.enter-entered in
-    let w = c.walk_page-in-Page in
-    let far = page_far a.s.now a.index.now a.row.now a.last.now (a.level + 1) p.left n.result w.new.index w.new.row w.new.last w.result c.in-Whole.next c.if-left-eq0-2.false (omega (arith, here.left (omega (arith, c.if-left-eq0-2)), here.whole.within)) w.ensures c.in-Whole.is in
-    let z = c.walk_entries-walked-in-Whole in (
+    let w = c.walk_page-2 in
+    let far = page_far a.s.now a.index.now a.row.now a.last.now (a.level + 1) p.left n.result w.new.index w.new.row w.new.last w.result c.in_ok-next.next c.if-left-eq0-2.false (omega (arith, here.left (omega (arith, c.if-left-eq0-2)), here.whole.within)) w.ensures c.in_ok-next.was in
+    let z = c.walk_entries-walked-2 in (
       omega (arith, pre),
       omega (arith, pre),
       omega (arith, pre, low),
       omega (arith, here.whole.within, pre),
       omega (arith, o.chains, pre),
-      entries_counted a.s.now w.new.index w.new.row w.new.last a.level a.st.next p.first p.count c.in-Whole.next z.new.index z.new.row z.new.last z.result here.row.entries p.past cur.chains cur.count here.row.reads (omega (arith, far, n.ensures)) (omega (arith, far, n.ensures)) z.ensures,
+      entries_counted a.s.now w.new.index w.new.row w.new.last a.level a.st.next p.first p.count c.in_ok-next.next z.new.index z.new.row z.new.last z.result here.row.entries p.past cur.chains cur.count here.row.reads (omega (arith, far, n.ensures)) (omega (arith, far, n.ensures)) z.ensures,
     )
 
-pub walk_page-returns-in-Whole : goal.walk_page-returns-in-Whole
-walk_page-returns-in-Whole t c =
+pub walk_page-returns : goal.walk_page-returns
+walk_page-returns t c =
     let a = c.args in
     let pre = c.requires in
     let low : a.level < 129 = omega (arith, c.if-level-ge-DEEPEST) in
-    let p = c.in-Page.p in
-    let here = page_is a.s.now a.st.next c.read_page.ensures c.in-Page.is in
+    let p = c.in_ok-p.p in
+    let here = page_is a.s.now a.st.next c.read_page.ensures c.in_ok-p.was in
     let o = c.take_page-cur.ensures in
     let cur = c.take_page-cur.result in
     let n = c.enter-entered in
-    let w = c.walk_page-in-Page in
-    let z = c.walk_entries-walked-in-Whole in
-    let y = c.leave-in-Whole in
+    let w = c.walk_page-2 in
+    let z = c.walk_entries-walked-2 in
+    let y = c.leave-2 in
     says_is a.s.now a.index.now a.row.now a.last.now a.level a.link a.above a.st z.new.index y.new.row z.new.last
-    (page_left a.s.now a.index.now a.row.now a.last.now a.level a.link a.above a.st cur p pre.1 low here o n.result n.ensures c.if-n-eq0.false c.if-left-eq0-2.false w.new.index w.new.row w.new.last w.result c.in-Whole.next w.ensures c.in-Whole.is z.result z.new.index z.new.row z.new.last y.new.row z.ensures y.ensures.noted) (sym y.ensures.same)
+    (page_left a.s.now a.index.now a.row.now a.last.now a.level a.link a.above a.st cur p pre.1 low here o n.result n.ensures c.if-n-eq0.false c.if-left-eq0-2.false w.new.index w.new.row w.new.last w.result c.in_ok-next.next w.ensures c.in_ok-next.was z.result z.new.index z.new.row z.new.last y.new.row z.ensures y.ensures.noted) (sym y.ensures.same)
 
-pub walk_page-returns-in-Stopped : goal.walk_page-returns-in-Stopped
-walk_page-returns-in-Stopped t c =
+pub walk_page-returns-in_err-next : goal.walk_page-returns-in_err-next
+walk_page-returns-in_err-next t c =
     let a = c.args in
     let pre = c.requires in
     let low : a.level < 129 = omega (arith, c.if-level-ge-DEEPEST) in
-    let p = c.in-Page.p in
-    let here = page_is a.s.now a.st.next c.read_page.ensures c.in-Page.is in
+    let p = c.in_ok-p.p in
+    let here = page_is a.s.now a.st.next c.read_page.ensures c.in_ok-p.was in
     let o = c.take_page-cur.ensures in
     let cur = c.take_page-cur.result in
     let n = c.enter-entered in
-    let w = c.walk_page-in-Page in
-    left_stopped a.s.now a.index.now a.row.now a.last.now a.level a.link a.above a.st cur p pre.1 low here o n.result n.ensures c.if-n-eq0.false c.if-left-eq0-2.false w.new.index w.new.row w.new.last w.result c.in-Stopped.stop w.ensures c.in-Stopped.is
+    let w = c.walk_page-2 in
+    subst (λ r. PageSays a.s.now a.index.now a.row.now a.last.now a.level a.link a.above a.st r w.new.index w.new.row w.new.last) {x = Err c.in_err-next.field-0.0} {y = c.from_residual-in_err-next.result} (search rules)
+    (left_stopped a.s.now a.index.now a.row.now a.last.now a.level a.link a.above a.st cur p pre.1 low here o n.result n.ensures c.if-n-eq0.false c.if-left-eq0-2.false w.new.index w.new.row w.new.last w.result c.in_err-next.field-0.0 w.ensures c.in_err-next.was)
 
-pub walk_page-returns-in-PageStop : goal.walk_page-returns-in-PageStop
-walk_page-returns-in-PageStop t c =
+pub walk_page-returns-in_err-p : goal.walk_page-returns-in_err-p
+walk_page-returns-in_err-p t c =
     let a = c.args in
-    page_stops a.s.now a.level a.link a.above a.index.now a.row.now a.last.now a.st c.read_page.result c.in-PageStop.stop (omega (arith, c.if-level-ge-DEEPEST)) c.read_page.ensures c.in-PageStop.is
+    subst (λ r. PageSays a.s.now a.index.now a.row.now a.last.now a.level a.link a.above a.st r a.index.now a.row.now a.last.now) {x = Err c.in_err-p.field-0.0} {y = c.from_residual.result} (search rules)
+    (page_stops a.s.now a.level a.link a.above a.index.now a.row.now a.last.now a.st c.read_page.result c.in_err-p.field-0.0 (omega (arith, c.if-level-ge-DEEPEST)) c.read_page.ensures c.in_err-p.was)

@@ -12,9 +12,5 @@ invariant-walk_entries-loop-i l =
     (length l.index ≡ length l.initial.index) × (length l.row ≡ length l.initial.row) × (length l.last ≡ length l.initial.last)
     × Onward l.s l.initial.index l.initial.row l.initial.last l.level l.page l.first l.n l.initial.cur l.index l.row l.last l.buffer l.size l.cur l.at l.i
 
-abbrev pub decreases-walk_entries-loop-i : goal.decreases-walk_entries-loop-i
-decreases-walk_entries-loop-i l =
-    l.n - l.i
-
 abbrev pub decreases-walk_page : goal.decreases-walk_page
 decreases-walk_page l = 2 * (length l.s.now - l.st.next)

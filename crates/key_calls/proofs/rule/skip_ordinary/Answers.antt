@@ -1,5 +1,4 @@
 use borrow.Author.Rules.{rules}
-use Prim.Native.Nat.{◌-◌}
 use native.Mathlib.Omega.{arith}
 use Rattle.key_calls.proofs.RuleLaws.{then_ordinary}
 use Rattle.key_calls.proofs.rule.skip_ordinary.Goals as goal

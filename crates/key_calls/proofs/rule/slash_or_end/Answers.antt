@@ -1,5 +1,4 @@
 use borrow.Author.Rules.{rules}
-use Prim.Native.Nat.{◌-◌}
 use mathlib.Core.Path.{sym, ◌∙◌}
 use Rattle.key_calls.proofs.RuleLaws.{pass_ends, pass_ordinary, pass_over, pass_other, pass_second, pass_slash, pass_whole}
 use Rattle.key_calls.proofs.rule.slash_or_end.Goals as goal

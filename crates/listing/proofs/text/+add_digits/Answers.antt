@@ -12,12 +12,12 @@ returns-then-n-lt10 t c =
     let a = c.args in
     adds_same c.add_byte.ensures (one_digit a.most a.n (omega arith) (omega arith))
 
-pub returns-in-Text : goal.returns-in-Text
-returns-in-Text t c =
+pub returns-in-Some : goal.returns-in-Some
+returns-in-Some t c =
     let a = c.args in
-    adds_same (adds_then c.add_digits.ensures c.in-Text.is c.add_byte-in-Text.ensures) (more_digits a.most a.n (omega arith) (omega arith))
+    adds_same (adds_then c.add_digits.ensures c.in-Some.is c.add_byte-in-Some.ensures) (more_digits a.most a.n (omega arith) (omega arith))
 
-pub returns-in-NoRoom : goal.returns-in-NoRoom
-returns-in-NoRoom t c =
+pub returns-in-None : goal.returns-in-None
+returns-in-None t c =
     let a = c.args in
-    adds_same (adds_short c.add_digits.ensures c.in-NoRoom.is _) (more_digits a.most a.n (omega arith) (omega arith))
+    adds_same (adds_short c.add_digits.ensures c.in-None.is _) (more_digits a.most a.n (omega arith) (omega arith))

@@ -14,15 +14,15 @@ add_line-requires c =
     let l = c.loop-i in
     (l.invariant.4.first, l.invariant.4.stands l.i c.loop-i-test.true, l.invariant.5, l.invariant.3)
 
-pub returns-in-NoRoom : goal.returns-in-NoRoom
-returns-in-NoRoom c =
+pub returns-in-None : goal.returns-in-None
+returns-in-None c =
     let l = c.loop-i in
-    lines_short _ _ _ _ _ _ _ l.invariant.6 _ l.invariant.0 c.loop-i-test.true l.invariant.4.room _ _ _ _ c.add_line.ensures c.in-NoRoom.is
+    lines_short _ _ _ _ _ _ _ l.invariant.6 _ l.invariant.0 c.loop-i-test.true l.invariant.4.room _ _ _ _ c.add_line.ensures c.in-None.is
 
 pub loop-i-preserved : goal.loop-i-preserved
 loop-i-preserved c =
     let l = c.loop-i in
-    (search rules, search rules, search rules, search rules, search rules, c.add_line.ensures.remembers, lines_more _ _ _ _ _ _ _ l.invariant.6 _ l.invariant.0 c.loop-i-test.true l.invariant.4.room _ _ _ _ c.add_line.ensures _ c.in-Text.is)
+    (search rules, search rules, search rules, search rules, search rules, c.add_line.ensures.remembers, lines_more _ _ _ _ _ _ _ l.invariant.6 _ l.invariant.0 c.loop-i-test.true l.invariant.4.room _ _ _ _ c.add_line.ensures _ c.in-Some.is)
 
 pub returns : goal.returns
 returns c =

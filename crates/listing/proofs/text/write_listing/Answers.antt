@@ -19,28 +19,28 @@ pub add_lines-requires : goal.add_lines-requires
 add_lines-requires c =
     let a = c.args in
     let j = c.judge in
-    let index = accepted_index a.s.now _ _ j.result j.ensures c.in-Accepted.is in
+    let index = accepted_index a.s.now _ _ j.result j.ensures c.in-Ok.is in
     let bytes = bytes_of_lem a.s.now (λ i h. omega (arith, c.type_inv.s i)) in
     index_row bytes index
 
-pub returns-in-Text : goal.returns-in-Text
-returns-in-Text c =
+pub returns-in-Some : goal.returns-in-Some
+returns-in-Some c =
     let a = c.args in
     let j = c.judge in
-    let index = accepted_index a.s.now _ _ j.result j.ensures c.in-Accepted.is in
+    let index = accepted_index a.s.now _ _ j.result j.ensures c.in-Ok.is in
     let bytes = bytes_of_lem a.s.now (λ i h. omega (arith, c.type_inv.s i)) in
-    wrote_records (omega arith) index c.add_first_line-in-Accepted.ensures bytes c.in-Text.is c.add_lines.ensures
+    wrote_records (omega arith) index c.add_first_line-in-Ok.ensures bytes c.in-Some.is c.add_lines.ensures
 
-pub returns-in-NoRoom : goal.returns-in-NoRoom
-returns-in-NoRoom c =
+pub returns-in-None : goal.returns-in-None
+returns-in-None c =
     let a = c.args in
     let j = c.judge in
-    let index = accepted_index a.s.now _ _ j.result j.ensures c.in-Accepted.is in
-    wrote_short (omega arith) index c.add_first_line-in-Accepted.ensures c.in-NoRoom.is
+    let index = accepted_index a.s.now _ _ j.result j.ensures c.in-Ok.is in
+    wrote_short (omega arith) index c.add_first_line-in-Ok.ensures c.in-None.is
 
-pub returns-in-Refused : goal.returns-in-Refused
-returns-in-Refused c =
+pub returns-in-Err : goal.returns-in-Err
+returns-in-Err c =
     let a = c.args in
     let j = c.judge in
-    wrote_refused a.s.now (omega arith) (judged_refused a.s.now _ _ j.result j.ensures c.in-Refused.is) _ c.number_of.ensures
-    c.add_first_line-in-Refused.ensures
+    wrote_refused a.s.now (omega arith) (judged_refused a.s.now _ _ j.result j.ensures c.in-Err.is) _ c.number_of.ensures
+    c.add_first_line-in-Err.ensures

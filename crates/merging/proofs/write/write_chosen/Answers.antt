@@ -5,12 +5,12 @@ use Rattle.merging.proofs.write.write_chosen.Goals as goal
 pub write_headed-requires : goal.write_headed-requires
 write_headed-requires c =
     let given = c.requires in
-    ((chosen_row _ _ _ _ _ c.choose.ensures c.in-Count.is).whole, given.2, given.3, given.4)
+    ((chosen_row _ _ _ _ _ c.choose.ensures c.in-Some.is).whole, given.2, given.3, given.4)
 
-pub returns-in-Count : goal.returns-in-Count
-returns-in-Count c =
-    let it = row_moved (chosen_row _ _ _ _ _ c.choose.ensures c.in-Count.is) _ _ _ _ (c.write_headed.ensures.headed, c.write_headed.ensures.output) in record { headed = it.0; output = it.1 }
+pub returns-in-Some : goal.returns-in-Some
+returns-in-Some c =
+    let it = row_moved (chosen_row _ _ _ _ _ c.choose.ensures c.in-Some.is) _ _ _ _ (c.write_headed.ensures.headed, c.write_headed.ensures.output) in record { headed = it.0; output = it.1 }
 
-pub returns-in-TooMany : goal.returns-in-TooMany
-returns-in-TooMany c =
-    let it = gives_refusal _ _ _ _ (chosen_many _ _ _ _ _ c.choose.ensures _ c.in-TooMany.is) (c.refuse_headed.ensures.headed, c.refuse_headed.ensures.output) in record { headed = it.0; output = it.1 }
+pub returns-in-None : goal.returns-in-None
+returns-in-None c =
+    let it = gives_refusal _ _ _ _ (chosen_many _ _ _ _ _ c.choose.ensures _ c.in-None.is) (c.refuse_headed.ensures.headed, c.refuse_headed.ensures.output) in record { headed = it.0; output = it.1 }

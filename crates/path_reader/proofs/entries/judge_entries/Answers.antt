@@ -23,8 +23,8 @@ extend_key-size-requires c = (search (rules, key_inside), search (rules, shares_
 pub loop-i-preserved : goal.loop-i-preserved
 loop-i-preserved c = search (rules, onward_entry)
 
-pub returns-in-EntryStop : goal.returns-in-EntryStop
-returns-in-EntryStop c = search (rules, onward_there)
+pub returns-in-Err : goal.returns-in-Err
+returns-in-Err c = search (rules, onward_there)
 
 pub returns : goal.returns
 returns c = search (rules, onward_end)

@@ -29,5 +29,5 @@ returns-then-not-same_bytes c = search (rules, not_due)
 pub returns-else-not-same_bytes : goal.returns-else-not-same_bytes
 returns-else-not-same_bytes c = search (rules, page_said)
 
-pub returns-in-PageStop : goal.returns-in-PageStop
-returns-in-PageStop c = search (rules, page_stopped)
+pub returns-in-Err : goal.returns-in-Err
+returns-in-Err c = search (rules, page_stopped)

@@ -5,9 +5,9 @@ use Rattle.reading.proofs.Verdicts.{accepting}
 use Rattle.path_writer.proofs.Verdicts.{path_unlawful, short_path, path_says}
 use Rattle.path_writer.proofs.rows.path_accepted.Goals as goal
 
-pub returns-in-Refused : goal.returns-in-Refused
-returns-in-Refused c =
-    let it = path_unlawful _ _ _ (c.refuse.ensures.answer, c.refuse.ensures.output) c.requires.0.judged (sym c.slash.ensures ∙ c.in-Refused.is) in record { answer = it.0; output = it.1 }
+pub returns-in-Err : goal.returns-in-Err
+returns-in-Err c =
+    let it = path_unlawful _ _ _ (c.refuse.ensures.answer, c.refuse.ensures.output) c.requires.0.judged (sym c.slash.ensures ∙ c.in-Err.is) in record { answer = it.0; output = it.1 }
 
 pub write_path-requires : goal.write_path-requires
 write_path-requires c =

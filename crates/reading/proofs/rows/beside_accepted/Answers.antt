@@ -3,9 +3,9 @@ use Rattle.key.proofs.SlashLaws.{slash_done}
 use Rattle.reading.proofs.Listings.{record_refused, record_same, beside_unlawful, beside_given, beside_none}
 use Rattle.reading.proofs.rows.beside_accepted.Goals as goal
 
-pub returns-in-Refused : goal.returns-in-Refused
-returns-in-Refused c =
-    let it = record_refused _ _ _ _ (beside_unlawful _ _ _ _ c.requires (sym c.slash.ensures ∙ c.in-Refused.is)) (c.refuse_record.ensures.answer, (c.refuse_record.ensures.key, c.refuse_record.ensures.value)) in record { answer = it.0; key = it.1.0; value = it.1.1 }
+pub returns-in-Err : goal.returns-in-Err
+returns-in-Err c =
+    let it = record_refused _ _ _ _ (beside_unlawful _ _ _ _ c.requires (sym c.slash.ensures ∙ c.in-Err.is)) (c.refuse_record.ensures.answer, (c.refuse_record.ensures.key, c.refuse_record.ensures.value)) in record { answer = it.0; key = it.1.0; value = it.1.1 }
 
 pub returns-then-count-position : goal.returns-then-count-position
 returns-then-count-position c =

@@ -3,8 +3,8 @@ use Rattle.reading.proofs.Listings.{record_refused, beside_refused}
 use Rattle.reading.proofs.rows.beside_with_rows.Goals as goal
 
 pub beside_accepted-requires : goal.beside_accepted-requires
-beside_accepted-requires c = accepted_index _ _ _ _ c.judge.ensures c.in-Accepted.is
+beside_accepted-requires c = accepted_index _ _ _ _ c.judge.ensures c.in-Ok.is
 
-pub returns-in-Refused : goal.returns-in-Refused
-returns-in-Refused c =
-    let it = record_refused _ _ _ _ (beside_refused _ _ _ _ (judged_refused _ _ _ _ c.judge.ensures c.in-Refused.is)) (c.refuse_record.ensures.answer, (c.refuse_record.ensures.key, c.refuse_record.ensures.value)) in record { answer = it.0; key = it.1.0; value = it.1.1 }
+pub returns-in-Err : goal.returns-in-Err
+returns-in-Err c =
+    let it = record_refused _ _ _ _ (beside_refused _ _ _ _ (judged_refused _ _ _ _ c.judge.ensures c.in-Err.is)) (c.refuse_record.ensures.answer, (c.refuse_record.ensures.key, c.refuse_record.ensures.value)) in record { answer = it.0; key = it.1.0; value = it.1.1 }

@@ -7,4 +7,4 @@ pub returns : goal.returns
 unfolding round
 returns c =
     let s = c.args.s in
-    rw (c.wrapping_add_u32-4.ensures.value, c.wrapping_add_u32-3.ensures.value, c.wrapping_add_u32-t2.ensures.value, c.maj.ensures, c.big_sigma_0.ensures, c.wrapping_add_u32-t1.ensures.value, c.wrapping_add_u32-2.ensures.value, c.ch_of.ensures, c.wrapping_add_u32.ensures.value, c.big_sigma_1.ensures, no_constant (s.h ⊞ Σ1 s.e) (Ch s.e s.f s.g))
+    rw (c.maj.ensures, c.big_sigma_0.ensures, c.ch_of.ensures, c.big_sigma_1.ensures, no_constant (s.h ⊞ Σ1 s.e) (Ch s.e s.f s.g))

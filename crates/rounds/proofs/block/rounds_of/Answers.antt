@@ -1,20 +1,11 @@
-use Rattle.std.proofs.Common.{refl, arith}
-use Rattle.fips180.specs.Hash.{rounds}
-use Rattle.rounds.proofs.RoundLaws.{eight_rounds, rounds_end}
+use Rattle.std.proofs.Common.{arith}
+use Rattle.rounds.proofs.RoundLaws.{eight_more, rounds_end}
 use Rattle.rounds.proofs.block.rounds_of.Goals as goal
 
-pub loop-t-init : goal.loop-t-init
-unfolding rounds
-loop-t-init c = (omega arith, refl, c.sums-v.ensures, refl)
-
-pub loop-t-preserved : goal.loop-t-preserved
-loop-t-preserved c =
-    let l = c.loop-t in (
-      omega arith,
-      omega arith,
-      l.invariant.2,
-      eight_rounds _ _ _ l.x _ l.t (omega arith) l.invariant.2 l.invariant.3 c.eight_rounds-x.ensures,
-    )
+pub loop-k-preserved : goal.loop-k-preserved
+loop-k-preserved c = let l = c.loop-k in eight_more _ _ l.x _ l.k l.invariant c.rounds_by-x.ensures
 
 pub returns : goal.returns
-returns c = let l = c.loop-t in rounds_end _ _ l.x _ l.t (omega arith) l.invariant.3 c.plus_of.ensures
+returns c =
+    let l = c.loop-k in
+    rounds_end _ _ _ l.x _ l.k (omega arith) (omega arith) (omega arith) c.sums-v.ensures l.invariant c.plus_of.ensures

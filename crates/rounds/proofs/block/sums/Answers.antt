@@ -5,15 +5,12 @@ use Rattle.rounds.proofs.block.sums.Goals as goal
 
 pub loop-t-init : goal.loop-t-init
 unfolding K
-loop-t-init c = (omega arith, refl, summed_none _ _ refl)
+loop-t-init c = (refl, summed_none _ _ refl)
 
 pub loop-t-preserved : goal.loop-t-preserved
 loop-t-preserved c =
-    let l = c.loop-t in (
-      omega arith,
-      length-set l.v l.t _ ∙ l.invariant.1,
-      summed_more _ l.v l.t _ (omega arith) c.wrapping_add_u32.ensures.value l.invariant.2,
-    )
+    let l = c.loop-t in
+    (length-set l.v l.t _ ∙ l.invariant.0, summed_more _ l.v l.t _ (omega arith) refl l.invariant.1)
 
 pub returns : goal.returns
-returns c = summed_all _ _ _ (omega arith) c.loop-t.invariant.2
+returns c = summed_all _ _ _ (omega arith) c.loop-t.invariant.1

@@ -1,9 +1,6 @@
-use Rattle.std.proofs.Common.{◌≡◌, ◌-◌, ◌≤◌, length}
+use Rattle.std.proofs.Common.{◌*◌}
 use Rattle.rounds.specs.Inner.{Beside}
 use Rattle.rounds.proofs.schedule.schedules_of.Given as goal
 
-abbrev pub invariant-loop-p : goal.invariant-loop-p
-invariant-loop-p l = (64 ≤ l.p) × (l.p ≤ 256) × (length l.w ≡ 256) × Beside l.p l.m l.w
-
-abbrev pub decreases-loop-p : goal.decreases-loop-p
-decreases-loop-p l = 256 - l.p
+abbrev pub invariant-loop-k : goal.invariant-loop-k
+invariant-loop-k g l = Beside g.row.LANES (8 * g.row.LANES * l.k) l.m l.w

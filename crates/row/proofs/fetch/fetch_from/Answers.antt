@@ -8,7 +8,7 @@ use Rattle.row.proofs.fetch.fetch_from.Goals as goal
 pub loop-at-init : goal.loop-at-init
 loop-at-init c =
     let bytes = bytes_of_lem c.args.s.now (λ i h. omega (arith, c.type_inv.s i)) in
-    (search rules, bytes, search rules, search rules, way_begins _ _ _ _ _ c.way_to.ensures _ _ c.in-At.is _)
+    (search rules, bytes, search rules, search rules, way_begins _ _ _ _ _ c.way_to.ensures _ _ c.in-Some.is _)
 
 pub extend_key-size-requires : goal.extend_key-size-requires
 extend_key-size-requires c = (search (rules, located_inside), search (rules, located_shares), search (rules, located_size))
@@ -19,17 +19,17 @@ loop-at-smaller c = search (rules, nearer)
 pub loop-at-preserved : goal.loop-at-preserved
 loop-at-preserved c = (search rules, search rules, search rules, search rules, search (rules, way_on))
 
-pub returns-in-EntryStop : goal.returns-in-EntryStop
-returns-in-EntryStop c = search (rules, way_stops)
+pub returns-in-Err : goal.returns-in-Err
+returns-in-Err c = search (rules, way_stops)
 
 pub extend_key-requires : goal.extend_key-requires
 extend_key-requires c = (search (rules, located_inside), search (rules, located_shares), search (rules, located_size))
 
-pub returns-in-Entry-locate_entry : goal.returns-in-Entry-locate_entry
-returns-in-Entry-locate_entry c = search (rules, way_ends)
+pub returns-in-Ok-locate_entry : goal.returns-in-Ok-locate_entry
+returns-in-Ok-locate_entry c = search (rules, way_ends)
 
-pub returns-in-EntryStop-locate_entry : goal.returns-in-EntryStop-locate_entry
-returns-in-EntryStop-locate_entry c = search (rules, way_breaks)
+pub returns-in-Err-locate_entry : goal.returns-in-Err-locate_entry
+returns-in-Err-locate_entry c = search (rules, way_breaks)
 
-pub returns-in-Nowhere : goal.returns-in-Nowhere
-returns-in-Nowhere c = search (rules, no_way)
+pub returns-in-None : goal.returns-in-None
+returns-in-None c = search (rules, no_way)

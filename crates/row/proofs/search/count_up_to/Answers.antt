@@ -5,17 +5,17 @@ use Rattle.row.proofs.Searching.{found_fits, absent_fits, up_to_found, up_to_abs
 use Rattle.row.proofs.search.count_up_to.Goals as goal
 
 pub overflow_add-result : goal.overflow_add-result
-overflow_add-result c = omega (arith, found_fits _ _ c.search.ensures.fits _ _ c.in-At.is)
+overflow_add-result c = omega (arith, found_fits _ _ c.search.ensures.fits _ _ c.in-Ok.is)
 
-pub returns-in-At : goal.returns-in-At
-returns-in-At c =
+pub returns-in-Ok : goal.returns-in-Ok
+returns-in-Ok c =
     let bytes = bytes_of_lem c.args.s.now (λ i h. omega (arith, c.type_inv.s i)) in record {
       says = search (rules, up_to_found, bytes);
-      fits = omega (arith, found_fits _ _ c.search.ensures.fits _ _ c.in-At.is);
+      fits = omega (arith, found_fits _ _ c.search.ensures.fits _ _ c.in-Ok.is);
     }
 
-pub returns-in-Absent : goal.returns-in-Absent
-returns-in-Absent c =
+pub returns-in-Err : goal.returns-in-Err
+returns-in-Err c =
     record {
       says = search (rules, up_to_absent);
       fits = search (rules, absent_fits);

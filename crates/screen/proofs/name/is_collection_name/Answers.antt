@@ -22,12 +22,12 @@ slice_bounds-slash-end c =
     let n = length c.args.name.now in
     sym (length-take-le (n + 2) (set w.new.out n slash_byte) (omega (arith, length-set w.new.out n slash_byte, w.auto.out)))
 
-pub returns-in-Done : goal.returns-in-Done
-returns-in-Done c =
+pub returns-in-Ok : goal.returns-in-Ok
+returns-in-Ok c =
     let name = c.args.name.now in
-    sym (name_lawful name (key_tried name _ c.write_bytes.ensures (omega arith) ∙ sym c.slash.ensures ∙ c.in-Done.is))
+    sym (name_lawful name (key_tried name _ c.write_bytes.ensures (omega arith) ∙ sym c.slash.ensures ∙ c.in-Ok.is))
 
-pub returns-in-Refused : goal.returns-in-Refused
-returns-in-Refused c =
+pub returns-in-Err : goal.returns-in-Err
+returns-in-Err c =
     let name = c.args.name.now in
-    sym (name_unlawful name (key_tried name _ c.write_bytes.ensures (omega arith) ∙ sym c.slash.ensures ∙ c.in-Refused.is))
+    sym (name_unlawful name (key_tried name _ c.write_bytes.ensures (omega arith) ∙ sym c.slash.ensures ∙ c.in-Err.is))

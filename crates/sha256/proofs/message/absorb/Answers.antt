@@ -1,21 +1,18 @@
-use Rattle.sha256.proofs.Blocks.{part_length, turn}
-use mathlib.Core.Path.{◌≡◌, refl}
-use Prim.Native.Nat.{◌-◌}
+use mathlib.Core.Path.{refl}
+use borrow.Author.Rules.{rules}
 use native.Mathlib.Omega.{arith}
-use Rattle.fips180.specs.Hash.{after_blocks}
+use lib.ListN.{length-replicate}
+use Rattle.std.proofs.lemmas.Grind.{common_steps, rows}
+use Rattle.sha256.proofs.Blocks.{none, turn}
 use Rattle.sha256.proofs.message.absorb.Goals as goal
 
-pub loop-k-init : goal.loop-k-init
-unfolding after_blocks
-loop-k-init c = (omega arith, refl)
+pub returns-then-n-eq0 : goal.returns-then-n-eq0
+returns-then-n-eq0 g c = none _ _ _ _ (omega arith)
 
-pub compress_of-x-requires : goal.compress_of-x-requires
-compress_of-x-requires c = part_length _ 64 c.loop-k.k (omega arith)
+pub loop-k-init : goal.loop-k-init
+loop-k-init g c = (length-replicate g.row.WORDS 0, none _ _ _ _ refl)
 
 pub loop-k-preserved : goal.loop-k-preserved
-loop-k-preserved c =
+loop-k-preserved g c =
     let l = c.loop-k in
-    (omega arith, turn _ l.k _ l.x _ l.invariant.1 c.compress_of-x.ensures)
-
-pub returns : goal.returns
-returns c = let l = c.loop-k in let e : l.k ≡ c.args.n = omega arith in rw (← e) l.invariant.1
+    (search rules, turn _ _ l.k _ l.x _ (grind (arith, common_steps, rows)) l.invariant.1 c.compress-x.ensures)

@@ -13,14 +13,14 @@ set_word-requires c =
     single_to_set a c.requires.1 c.single-word.ensures (omega (arith, c.single-word.auto)) c.search-found.ensures.says
 
 pub write_table-requires : goal.write_table-requires
-write_table-requires c = ((chosen_row _ _ _ _ _ c.set_word.ensures c.in-Count.is).whole, none_labelled _ _, none_labelled _ _)
+write_table-requires c = ((chosen_row _ _ _ _ _ c.set_word.ensures c.in-Some.is).whole, none_labelled _ _, none_labelled _ _)
 
-pub returns-in-Count : goal.returns-in-Count
-returns-in-Count c =
+pub returns-in-Some : goal.returns-in-Some
+returns-in-Some c =
     let a = accepting (λ i h. omega (arith, c.type_inv.register i)) c.requires.0 in let it = says_same _ _ _ (put_done a _ _ _ _ c.single-word.ensures _)
-    (row_written (chosen_row _ _ _ _ _ c.set_word.ensures c.in-Count.is) _ _ _ (c.write_table.ensures.answer, c.write_table.ensures.output)) in record { answer = it.0; output = it.1 }
+    (row_written (chosen_row _ _ _ _ _ c.set_word.ensures c.in-Some.is) _ _ _ (c.write_table.ensures.answer, c.write_table.ensures.output)) in record { answer = it.0; output = it.1 }
 
-pub returns-in-TooMany : goal.returns-in-TooMany
-returns-in-TooMany c =
+pub returns-in-None : goal.returns-in-None
+returns-in-None c =
     let a = accepting (λ i h. omega (arith, c.type_inv.register i)) c.requires.0 in
-    let full = chosen_full _ _ _ _ _ c.set_word.ensures _ c.in-TooMany.is in let it = refuses _ _ _ (sym (put_done a _ _ _ _ c.single-word.ensures _) ∙ full) (c.refuse.ensures.answer, c.refuse.ensures.output) in record { answer = it.0; output = it.1 }
+    let full = chosen_full _ _ _ _ _ c.set_word.ensures _ c.in-None.is in let it = refuses _ _ _ (sym (put_done a _ _ _ _ c.single-word.ensures _) ∙ full) (c.refuse.ensures.answer, c.refuse.ensures.output) in record { answer = it.0; output = it.1 }

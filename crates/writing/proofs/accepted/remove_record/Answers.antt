@@ -9,21 +9,21 @@ use Rattle.writing.proofs.accepted.remove_record.Goals as goal
 pub leave_out-requires : goal.leave_out-requires
 leave_out-requires c =
     let given = c.requires in
-    (position_within given _ _ c.search.ensures.says _ _ c.in-At.is, given.room)
+    (position_within given _ _ c.search.ensures.says _ _ c.in-Ok.is, given.room)
 
 pub overflow_sub-left : goal.overflow_sub-left
-overflow_sub-left c = omega (arith, position_within c.requires _ _ c.search.ensures.says _ _ c.in-At.is)
+overflow_sub-left c = omega (arith, position_within c.requires _ _ c.search.ensures.says _ _ c.in-Ok.is)
 
 pub write_table-requires : goal.write_table-requires
 write_table-requires c =
     let a = accepting (λ i h. omega (arith, c.type_inv.register i)) c.requires in
-    ((left_row a _ _ c.search.ensures.says _ _ c.in-At.is _ c.leave_out.auto.row c.leave_out.ensures).whole, none_labelled _ _, none_labelled _ _)
+    ((left_row a _ _ c.search.ensures.says _ _ c.in-Ok.is _ c.leave_out.auto.row c.leave_out.ensures).whole, none_labelled _ _, none_labelled _ _)
 
-pub returns-in-At : goal.returns-in-At
-returns-in-At c =
+pub returns-in-Ok : goal.returns-in-Ok
+returns-in-Ok c =
     let a = accepting (λ i h. omega (arith, c.type_inv.register i)) c.requires in
-    let row = left_row a _ _ c.search.ensures.says _ _ c.in-At.is _ c.leave_out.auto.row c.leave_out.ensures in let it = says_same _ _ _ (found_without a _ _ c.search.ensures.says _ _ c.in-At.is _) (row_written row _ _ _ (c.write_table.ensures.answer, c.write_table.ensures.output)) in record { answer = it.0; output = it.1 }
+    let row = left_row a _ _ c.search.ensures.says _ _ c.in-Ok.is _ c.leave_out.auto.row c.leave_out.ensures in let it = says_same _ _ _ (found_without a _ _ c.search.ensures.says _ _ c.in-Ok.is _) (row_written row _ _ _ (c.write_table.ensures.answer, c.write_table.ensures.output)) in record { answer = it.0; output = it.1 }
 
-pub returns-in-Absent : goal.returns-in-Absent
-returns-in-Absent c =
-    let a = accepting (λ i h. omega (arith, c.type_inv.register i)) c.requires in let it = refuses _ _ _ (absent_without a _ _ c.search.ensures.says _ c.in-Absent.is _) (c.refuse.ensures.answer, c.refuse.ensures.output) in record { answer = it.0; output = it.1 }
+pub returns-in-Err : goal.returns-in-Err
+returns-in-Err c =
+    let a = accepting (λ i h. omega (arith, c.type_inv.register i)) c.requires in let it = refuses _ _ _ (absent_without a _ _ c.search.ensures.says _ c.in-Err.is _) (c.refuse.ensures.answer, c.refuse.ensures.output) in record { answer = it.0; output = it.1 }

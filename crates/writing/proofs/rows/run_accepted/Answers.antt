@@ -4,9 +4,9 @@ use Rattle.reading.proofs.Verdicts.{accepting}
 use Rattle.writing.proofs.Calls.{run_rises, run_done}
 use Rattle.writing.proofs.rows.run_accepted.Goals as goal
 
-pub returns-in-Refused : goal.returns-in-Refused
-returns-in-Refused c =
-    let it = refuses _ _ _ (run_stopped _ _ _ _ _ c.requires.0.judged (due_refused _ c.test_range.ensures c.in-Refused.is)) (c.refuse.ensures.answer, c.refuse.ensures.output) in record { answer = it.0; output = it.1 }
+pub returns-in-Err : goal.returns-in-Err
+returns-in-Err c =
+    let it = refuses _ _ _ (run_stopped _ _ _ _ _ c.requires.0.judged (due_refused _ c.test_range.ensures c.in-Err.is)) (c.refuse.ensures.answer, c.refuse.ensures.output) in record { answer = it.0; output = it.1 }
 
 pub write_range-requires : goal.write_range-requires
 write_range-requires c =

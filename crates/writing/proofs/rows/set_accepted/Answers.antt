@@ -10,9 +10,9 @@ use Rattle.writing.proofs.Setting.{single_to_set}
 use borrow.Author.Rules.{rules}
 use Rattle.writing.proofs.rows.set_accepted.Goals as goal
 
-pub returns-in-Refused : goal.returns-in-Refused
-returns-in-Refused c =
-    let it = gives_refusal _ _ _ _ (set_stopped _ _ _ _ _ _ _ c.requires.0.judged c.requires.2 (due_refused _ c.test_record.ensures c.in-Refused.is)) (c.refuse_headed.ensures.headed, c.refuse_headed.ensures.output) in record { headed = it.0; output = it.1 }
+pub returns-in-Err : goal.returns-in-Err
+returns-in-Err c =
+    let it = gives_refusal _ _ _ _ (set_stopped _ _ _ _ _ _ _ c.requires.0.judged c.requires.2 (due_refused _ c.test_record.ensures c.in-Err.is)) (c.refuse_headed.ensures.headed, c.refuse_headed.ensures.output) in record { headed = it.0; output = it.1 }
 
 pub single-word-requires : goal.single-word-requires
 single-word-requires c =
@@ -30,18 +30,18 @@ set_word-requires c =
 pub write_headed-requires : goal.write_headed-requires
 write_headed-requires c =
     let a = accepting (λ i h. omega (arith, c.type_inv.register i)) c.requires.0 in
-    let row = (chosen_row _ _ _ _ _ c.set_word.ensures c.in-Count.is).whole in
+    let row = (chosen_row _ _ _ _ _ c.set_word.ensures c.in-Some.is).whole in
     (row, row_labelled c.requires.1, none_labelled _ _, lent_digest _ _ _ a.bytes a.given.judged c.requires.2 _ c.root_end-end.ensures)
 
-pub returns-in-Count : goal.returns-in-Count
-returns-in-Count c =
+pub returns-in-Some : goal.returns-in-Some
+returns-in-Some c =
     let a = accepting (λ i h. omega (arith, c.type_inv.register i)) c.requires.0 in
     let tested = due_done _ c.test_record.ensures c.in_default.is in
-    let done = set_done a c.args.head c.requires.2 c.args.greater _ _ _ tested c.as_value.ensures _ _ c.single-word.ensures _ in let it = gives_same _ _ _ _ done (row_moved (chosen_row _ _ _ _ _ c.set_word.ensures c.in-Count.is) _ _ _ _ (c.write_headed.ensures.headed, c.write_headed.ensures.output)) in record { headed = it.0; output = it.1 }
+    let done = set_done a c.args.head c.requires.2 c.args.greater _ _ _ tested c.as_value.ensures _ _ c.single-word.ensures _ in let it = gives_same _ _ _ _ done (row_moved (chosen_row _ _ _ _ _ c.set_word.ensures c.in-Some.is) _ _ _ _ (c.write_headed.ensures.headed, c.write_headed.ensures.output)) in record { headed = it.0; output = it.1 }
 
-pub returns-in-TooMany : goal.returns-in-TooMany
-returns-in-TooMany c =
+pub returns-in-None : goal.returns-in-None
+returns-in-None c =
     let a = accepting (λ i h. omega (arith, c.type_inv.register i)) c.requires.0 in
     let tested = due_done _ c.test_record.ensures c.in_default.is in
-    let many = chosen_many _ _ _ _ _ c.set_word.ensures _ c.in-TooMany.is in
-    let done = set_done a c.args.head c.requires.2 c.args.greater _ _ _ tested c.as_value.ensures _ _ c.single-word.ensures _ in let it = gives_refusal _ _ _ _ (sym done ∙ many) (c.refuse_headed-in-TooMany.ensures.headed, c.refuse_headed-in-TooMany.ensures.output) in record { headed = it.0; output = it.1 }
+    let many = chosen_many _ _ _ _ _ c.set_word.ensures _ c.in-None.is in
+    let done = set_done a c.args.head c.requires.2 c.args.greater _ _ _ tested c.as_value.ensures _ _ c.single-word.ensures _ in let it = gives_refusal _ _ _ _ (sym done ∙ many) (c.refuse_headed-in-None.ensures.headed, c.refuse_headed-in-None.ensures.output) in record { headed = it.0; output = it.1 }

@@ -5,13 +5,13 @@ use Rattle.key.proofs.SlashLaws.{slash_done}
 use Rattle.writing.proofs.Writing.{test_holds, test_fails, unlawful_fails, none_due}
 use Rattle.writing.proofs.tests.test_range.Goals as goal
 
-pub returns-in-Refused : goal.returns-in-Refused
-returns-in-Refused c = unlawful_fails _ _ (sym c.slash.ensures ∙ c.in-Refused.is)
+pub returns-in-Err : goal.returns-in-Err
+returns-in-Err c = unlawful_fails _ _ (sym c.slash.ensures ∙ c.in-Err.is)
 
-pub returns-in-Refused-slash : goal.returns-in-Refused-slash
-returns-in-Refused-slash c =
+pub returns-in-Err-slash : goal.returns-in-Err-slash
+returns-in-Err-slash c =
     test_holds _ UnlawfulKey (slash_done _ _ (sym c.slash.ensures ∙ c.in_default.is))
-    (unlawful_fails _ _ (sym c.slash-2.ensures ∙ c.in-Refused-slash.is))
+    (unlawful_fails _ _ (sym c.slash-2.ensures ∙ c.in-Err-slash.is))
 
 pub returns-then-is_less : goal.returns-then-is_less
 returns-then-is_less c =

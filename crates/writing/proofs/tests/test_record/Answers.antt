@@ -4,8 +4,8 @@ use Rattle.key.proofs.SlashLaws.{slash_done}
 use Rattle.writing.proofs.Writing.{test_holds, test_fails, unlawful_fails, none_due, value_short, value_other, value_right}
 use Rattle.writing.proofs.tests.test_record.Goals as goal
 
-pub returns-in-Refused : goal.returns-in-Refused
-returns-in-Refused c = unlawful_fails _ _ (sym c.slash.ensures ∙ c.in-Refused.is)
+pub returns-in-Err : goal.returns-in-Err
+returns-in-Err c = unlawful_fails _ _ (sym c.slash.ensures ∙ c.in-Err.is)
 
 pub returns-then-value-ne-VALUE : goal.returns-then-value-ne-VALUE
 returns-then-value-ne-VALUE c =
