@@ -94,9 +94,14 @@ def twins(files):
 
 def index_loops(files):
     """`while` loops."""
-    for path, name, _, _, body in functions(files):
-        for _ in re.findall(r"^ *while ", body, re.M):
-            yield crate(path), name
+    for path, text in files.items():
+        name = ""
+        for line in code(text).split("\n"):
+            start = re.match(r"^ *(?:pub(?:\(crate\))? )?(?:extern \"C\" )?fn (\w+)", line)
+            if start:
+                name = start.group(1)
+            if re.match(r"^ *while ", line):
+                yield crate(path), name
 
 
 def by_hand(files):

@@ -56,15 +56,21 @@ abbrev pub said_of_two : Result (ℕ × ℕ) Refusal → Said
 said_of_two (Ok (n, count)) = done_with (n ∷ count ∷ [])
 said_of_two (Err r) = refused_with (number_of r)
 
--- An answer as one number: the refusal's number alone, or 256 times the value.
+-- An answer as one number: the refusal's number alone, or 256 times what its values make together.
+abbrev pub code : {T : Type 0} → (T → ℕ) → Result T Refusal → ℕ
+code joined (Ok values) = 256 * joined values
+code joined (Err r) = number_of r
+
+-- Of one value that is the value.
 abbrev pub encoded : Result ℕ Refusal → ℕ
-encoded (Ok v) = 256 * v
-encoded (Err r) = number_of r
+encoded = code (λ v. v)
 
 -- Of two values the second is multiplied by 2^24; the first, a table's length or a place, is below that.
+abbrev pub one_number : ℕ × ℕ → ℕ
+one_number (n, count) = n + 2 ^ 24 * count
+
 abbrev pub encoded_of_two : Result (ℕ × ℕ) Refusal → ℕ
-encoded_of_two (Ok (n, count)) = 256 * (n + 2 ^ 24 * count)
-encoded_of_two (Err r) = number_of r
+encoded_of_two = code one_number
 
 -- The one number taken apart: its remainder by 256 is a refusal's number, or 0; then the quotient is the value.
 unfoldable pub taken_apart : ℕ → Said

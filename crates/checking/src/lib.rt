@@ -18,7 +18,7 @@ use head::{Head, Headed, same_head, zero_head};
 use judge::judge;
 use layout::runs::top_layer;
 
-// The head of a register that is accepted, by its rows.
+// The head of a register that is accepted, by its rows. They are no `Accepted` value: judge_lent hands them on to calls that change the index.
 fn head_of(register: &[u8], index: &[u64], count: usize, chains: &[u64], n: usize) -> Head
     requires { AcceptedIndex register.now index.now count × ChainRow register.now chains.now n }
     ensures { (t : SpeltTree) → judge register.now ≡ accepted t → result ≡ head_of (records t) }
@@ -59,14 +59,10 @@ pub fn judge_lent(
     requires { RoomFor register.now 1 (length index.old) × RoomFor register.now 2 (length chains.old) }
     ensures { LentSays register.now head result index.new chains.new }
 {
-    match judge(register, index, chains) {
-        Ok((count, n)) => {
-            let own = head_of(register, index, count, chains, n);
-            if !same_head(head, own) {
-                return Err(Refusal::UntrueHead);
-            }
-            Ok((count, n))
-        }
-        Err(refusal) => Err(refusal),
+    let (count, n) = judge(register, index, chains)?;
+    let own = head_of(register, index, count, chains, n);
+    if !same_head(head, own) {
+        return Err(Refusal::UntrueHead);
     }
+    Ok((count, n))
 }

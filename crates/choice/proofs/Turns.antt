@@ -1,7 +1,7 @@
 -- Two rows combined, turn by turn.
 use Rattle.std.specs.declared.cmp.Ordering.{Ordering}
 use Rattle.std.specs.declared.cmp.Ordering.TheVariants.{Less, Equal, Greater}
-use Rattle.std.specs.Prelude.{Option, Some, None}
+use Rattle.std.specs.Prelude.{Option, Some, None, unwrap_or}
 use Prim.Native.Nat.{ℕ, ◌+◌, ◌-◌, ◌≤◌, ◌<◌}
 use mathlib.Core.Path.{◌≡◌, refl, sym, ap, subst, ◌∙◌}
 use mathlib.Core.Bool.{Bool, true, false, cond}
@@ -109,20 +109,20 @@ module _ (s u : List ℕ) (x y : ℕ) where
       combined_second (rule_of p) (record_of_word s u x) ms (record_of_word s u y) rs (order_greater (record_of_word s u x).key (record_of_word s u y).key e)
 
 -- ---- one word more, or none
-module _ {row : List ℕ} {k limit w : ℕ} {kept : Bool} {row' : List ℕ} {k' : ℕ} (t : Kept row k limit w kept row' k') (few : k' ≤ limit) (room : limit ≤ length row) where
+module _ (row : List ℕ) (k limit w : ℕ) (kept : Bool) (row' : List ℕ) (k' : ℕ) (t : Kept row k limit w kept row' (Some k')) (room : limit ≤ length row) where
   fits : kept ≡ true → k < length row
-  fits e = omega (arith, rw e at t.count)
+  fits e = omega (arith, rw e at t.0, t.1)
 
   kept_stands : (s u : List ℕ) → All (Stands s u) (take k row) → Stands s u w → All (Stands s u) (take k' row')
   kept_stands s u stands standing =
-      rw (t.count, t.words few)
+      rw (t.0, t.2)
       (cases kept
       (λ e. rw (e, add-one k, take-suc-set row k w (fits e)) (all_append (Stands s u) (take k row) (w ∷ []) stands (standing, tt)))
       (λ e. rw e stands))
 
   kept_records : (s u : List ℕ) → records_of s u row' k' ≡ records_of s u row k ++ cond kept (record_of_word s u w ∷ []) []
   kept_records s u =
-      rw (t.count, t.words few)
+      rw (t.0, t.2)
       (cases kept (λ e. rw (e, records_snoc s u row k w (fits e))) (λ e. rw e (sym (append-nil (records_of s u row k)))))
 
 -- ---- the rows combined so far
@@ -285,17 +285,21 @@ module _ {s u first : List ℕ} {n : ℕ} {second : List ℕ} {m : ℕ} {p : Pol
           goes_on Equal ei ej = omega arith
           goes_on Greater ei ej = omega arith
 
-      module _ {row' : List ℕ} {k' : ℕ} (kept : Kept row k limit c.word c.kept row' k') where
-        pub too_many : limit < k' → limit < length (combined_of p s u first n second m)
-        too_many h =
-            cases c.kept (λ e. omega (arith, size, rw e at kept.count, ap length (rw e at taken))) (λ e. absurd (omega (arith, f.few, rw e at kept.count)))
+      pub too_many : (r : Option ℕ) (row' : List ℕ) → Kept row k limit c.word c.kept row' r → r ≡ None → limit < length (combined_of p s u first n second m)
+      too_many r row' kept e =
+          let none : limit < cond c.kept (k + 1) k = subst (λ (r : Option ℕ). Kept row k limit c.word c.kept row' r) e kept in
+          cases c.kept (λ e. omega (arith, size, rw e at none, ap length (rw e at taken))) (λ e. absurd (omega (arith, f.few, rw e at none)))
+
+      module _ (r : Option ℕ) (row' : List ℕ) (k' : ℕ) (done : Kept row k limit c.word c.kept row' r) (is : r ≡ Some k') where
+        abbrev kept : Kept row k limit c.word c.kept row' (Some k')
+        kept = subst (λ (r : Option ℕ). Kept row k limit c.word c.kept row' r) is done
 
         -- the word is kept or not, and the cursors go on
-        pub turn : k' ≤ limit → length row' ≡ length row
+        pub turn : length row' ≡ length row
             → {keys' notes' : List ℕ} {a' : Cursor} → (a'.at ≡ cond c.first (a.at + 1) a.at) × Held s u first n keys' notes' a' → length notes' ≡ 64
             → {others' marks' : List ℕ} {b' : Cursor} → (b'.at ≡ cond c.second (b.at + 1) b.at) × Held s u second m others' marks' b' → length marks' ≡ 64
             → SoFar s u first n second m p limit row' keys' notes' others' marks' a' b' k'
-        turn few same_length left slots right others_slots = record {
+        turn same_length left slots right others_slots = record {
           whole = f.whole;
           other = f.other;
           left = left.1;
@@ -304,25 +308,19 @@ module _ {s u first : List ℕ} {n : ℕ} {second : List ℕ} {m : ℕ} {p : Pol
           others_slots = others_slots;
           within = rw left.0 (at_most c.first more);
           beside = rw right.0 (at_most c.second there);
-          few = few;
+          few = kept.1;
           room = omega (arith, f.room);
           small = f.small;
-          stands = kept_stands kept few f.room s u f.stands
+          stands = kept_stands row k limit c.word c.kept row' k' kept f.room s u f.stands
               (rw candidate_is (candidate_stands s u x y (f.whole.stands a.at more) (f.other.stands b.at there) p by_key));
-          records = rw (left.0, right.0, kept_records kept few f.room s u)
+          records = rw (left.0, right.0, kept_records row k limit c.word c.kept row' k' kept f.room s u)
               (append_assoc (records_of s u row k) (kept_of s u x y c) _ ∙ rw (← taken) f.records);
         }
 
 -- ---- what the second row has that the first does not hold
-module _ (s u first : List ℕ) (n : ℕ) (second : List ℕ) (m : ℕ) (row : List ℕ) (r : Option ℕ) (says : WithinSays m s u (combined_of Lacking s u first n second m) r row) where
-  abbrev said : {x : Option ℕ} → r ≡ x → WithinSays m s u (combined_of Lacking s u first n second m) x row
-  said e = subst (λ (x : Option ℕ). WithinSays m s u (combined_of Lacking s u first n second m) x row) e says
-
-  pub sifted_row : {count : ℕ} → r ≡ Some count → RowOf s u row count (sifted_of s u first n second m)
-  unfolding combined_of rule_of sifted_of
-  sifted_row e = said e
-
-  pub never_too_many : Row s u second m → r ≡ None → ⊥
-  unfolding combined_of rule_of
-  never_too_many other e =
-      omega (arith, said e, sift_few (records_of s u first n) (records_of s u second m), records_length s u second m other.room)
+pub sifted_row : (s u first : List ℕ) (n : ℕ) (second : List ℕ) (m : ℕ) (row : List ℕ) (r : Option ℕ) → WithinSays m s u (combined_of Lacking s u first n second m) r row
+    → Row s u second m → (count : ℕ) → count ≡ unwrap_or r 0 → RowOf s u row count (sifted_of s u first n second m)
+unfolding combined_of rule_of sifted_of
+sifted_row s u first n second m row (Some k) says other count e = rw e says
+sifted_row s u first n second m row None says other count e =
+    absurd (omega (arith, says, sift_few (records_of s u first n) (records_of s u second m), records_length s u second m other.room))

@@ -117,10 +117,10 @@ candidate_of policy Equal v w first second = record {
 }
 candidate_of policy Greater v w first second = record { word = second; kept = true; first = false; second = true }
 
--- A word goes behind the first k of a row if it is kept and that makes no more than the limit.
-pub record Kept (row : List ℕ) (k limit word : ℕ) (kept : Bool) (row' : List ℕ) (r : ℕ) : Type 0 where
-  pub count : r ≡ cond kept (k + 1) k
-  pub words : r ≤ limit → row' ≡ cond kept (set row k word) row
+-- A word goes behind the first k of a row if it is kept, unless that makes more than the limit.
+abbrev pub Kept : List ℕ → ℕ → ℕ → ℕ → Bool → List ℕ → Option ℕ → Type 0
+Kept row k limit word kept row' (Some n) = (n ≡ cond kept (k + 1) k) × (n ≤ limit) × (row' ≡ cond kept (set row k word) row)
+Kept row k limit word kept row' None = limit < cond kept (k + 1) k
 
 -- Where there is a record at a cursor's position of a row, its key is held and its value's place known.
 pub record Held (s u row : List ℕ) (n : ℕ) (keys notes : List ℕ) (c : Cursor) : Type 0 where

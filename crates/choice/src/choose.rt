@@ -8,20 +8,19 @@ use crate::cursor::{Cursor, advance, cursor_at, order_of};
 use crate::policy::{Candidate, Policy, candidate_of, rest_end};
 use limits::MOST;
 
-// The word goes behind the first k of the row, if it is kept and there is a place for it. The count answered is past the limit where there is
-// none.
-fn keep(row: &mut [u64], k: usize, limit: usize, word: u64, kept: bool) -> usize
+// The word goes behind the first k of the row if it is kept, unless that makes more than the limit: how many words there are then.
+fn keep(row: &mut [u64], k: usize, limit: usize, word: u64, kept: bool) -> Option<usize>
     requires { (k ≤ limit) × (limit ≤ length row.old) × (limit ≤ most) }
     ensures { Kept row.old k limit word kept row.new result }
 {
-    if kept {
-        if k < limit {
-            row[k] = word;
-            return k + 1;
-        }
-        return k + 1;
+    if !kept {
+        return Some(k);
     }
-    k
+    if k == limit {
+        return None;
+    }
+    row[k] = word;
+    Some(k + 1)
 }
 
 // The words of a row from a position up to another, behind the k words chosen so far, if that makes no more than the limit.
@@ -36,15 +35,13 @@ fn append(
     requires { (k ≤ limit) × (limit ≤ length row.old) × (from ≤ to) × (to ≤ length words.now) }
     ensures { AppendSays row.old k limit (take (to - from) (drop from words.now)) result row.new }
 {
-    if limit - k < to - from {
+    let rest = &words[from..to];
+    if limit - k < rest.len() {
         return None;
     }
-    let mut i = 0;
-    while i < to - from {
-        row[k + i] = words[from + i];
-        i += 1;
-    }
-    Some(k + i)
+    let end = k + rest.len();
+    row[k..end].copy_from_slice(rest);
+    Some(end)
 }
 
 // Of the words at two cursors the one whose turn it is.
@@ -91,16 +88,14 @@ fn combine(
     let mut a = cursor_at(s, u, first, n, 0, &mut keys, &mut notes);
     let mut b = cursor_at(s, u, second, m, 0, &mut others, &mut marks);
     let mut k = 0;
+    // Each cursor goes on or stays, by the order of the keys.
     while a.at < n {
         if m <= b.at {
             let end = rest_end(policy, a.at, n);
             return append(row, k, limit, first, a.at, end);
         }
         let next = candidate_at(s, u, policy, first, &keys, a, second, &others, b);
-        k = keep(row, k, limit, next.word, next.kept);
-        if limit < k {
-            return None;
-        }
+        k = keep(row, k, limit, next.word, next.kept)?;
         a = advance(s, u, first, n, a, next.first, &mut keys, &mut notes);
         b = advance(s, u, second, m, b, next.second, &mut others, &mut marks);
     }
@@ -136,8 +131,5 @@ pub fn leave_held(
     requires { Row s.now u.now first.now n × Row s.now u.now second.now m × (m ≤ length row.old) }
     ensures { RowOf s.now u.now row.new result (sifted_of s.now u.now first.now n second.now m) }
 {
-    match combine(s, u, first, n, second, m, Policy::Lacking, m, row) {
-        Some(count) => count,
-        None => 0,
-    }
+    combine(s, u, first, n, second, m, Policy::Lacking, m, row).unwrap_or(0)
 }

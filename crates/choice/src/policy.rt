@@ -30,11 +30,7 @@ pub struct Candidate {
 fn compare_values(v: Value, w: Value) -> Ordering
     ensures { result ≡ value_order v w }
 {
-    match compare(&v[1..], &w[1..]) {
-        Ordering::Less => Ordering::Less,
-        Ordering::Equal => compare(&v[..1], &w[..1]),
-        Ordering::Greater => Ordering::Greater,
-    }
+    compare(&v[1..], &w[1..]).then_with(|| compare(&v[..1], &w[..1]))
 }
 
 // The order of the values of two words, whose digests stand at these places.
@@ -61,8 +57,7 @@ fn word_of_both(policy: Policy, values: Ordering, first: u64, second: u64) -> u6
     match policy {
         Policy::Merged => match values {
             Ordering::Less => second,
-            Ordering::Equal => first,
-            Ordering::Greater => first,
+            Ordering::Equal | Ordering::Greater => first,
         },
         Policy::Lacking => second,
     }
@@ -92,10 +87,7 @@ pub fn word_of(
 fn keeps_first(policy: Policy) -> bool
     ensures { result ≡ keeps_first policy }
 {
-    match policy {
-        Policy::Merged => true,
-        Policy::Lacking => false,
-    }
+    matches!(policy, Policy::Merged)
 }
 
 // Whether one of two records under one key is kept, where their values stand in this order.
@@ -104,11 +96,7 @@ fn keeps_of_both(policy: Policy, values: Ordering) -> bool
 {
     match policy {
         Policy::Merged => true,
-        Policy::Lacking => match values {
-            Ordering::Less => true,
-            Ordering::Equal => false,
-            Ordering::Greater => true,
-        },
+        Policy::Lacking => values.is_ne(),
     }
 }
 

@@ -4,7 +4,7 @@ ghost use Rattle.index.specs.Accepted.{AcceptedIndex, ChainRow};
 ghost use Rattle.promises.specs.Counted.{counted_answer, counted_output};
 ghost use Rattle.promises.specs.Difference.{difference_outcome};
 
-use answer::{Refusal, with_second};
+use answer::Refusal;
 use choice::choose::leave_held;
 use opened::pass::open_pages;
 use writer::write_table;
@@ -43,7 +43,7 @@ pub fn differ(
     );
     let opened = opening.opened as u32;
     let count = leave_held(first, second, index, n, staged, opening.staged, other);
-    let answer = write_table(
+    let len = write_table(
         first,
         second,
         first_chains,
@@ -53,6 +53,6 @@ pub fn differ(
         other,
         count,
         out,
-    );
-    with_second(answer, opened)
+    )?;
+    Ok((len, opened))
 }

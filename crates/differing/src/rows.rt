@@ -1,4 +1,5 @@
 // The call, with rows that are lent: for each register one with a word for each record and one with two words for each chain of its pages.
+// Where a register is refused, the output is cleared, so that no refusal goes out by `?`.
 ghost use Rattle.std.specs.Prelude.{◌≡◌, length};
 ghost use Rattle.index.specs.Accepted.{AcceptedIndex, ChainRow};
 ghost use Rattle.promises.specs.Counted.{counted_answer, counted_output};
@@ -9,7 +10,7 @@ use crate::differ::differ;
 use answer::Refusal;
 use judge::judge;
 use lending::with_rows;
-use writer::refusal::refuse_two;
+use writer::refusal::refuse;
 
 // The difference of two registers.
 pub fn difference_with_rows(
@@ -40,7 +41,7 @@ pub fn difference_with_rows(
                 )
             },
         ),
-        Err(refusal) => refuse_two(out, refusal),
+        Err(refusal) => refuse(out, refusal),
     }
 }
 
@@ -74,7 +75,7 @@ fn difference_second(
             second_count,
             out,
         ),
-        Err(refusal) => refuse_two(out, refusal),
+        Err(refusal) => refuse(out, refusal),
     }
 }
 

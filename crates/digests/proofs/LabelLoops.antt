@@ -24,9 +24,9 @@ pub record LabelsLeft (s : List ℕ) (at : ℕ) (labels : List (List ℕ)) (labe
 unfoldable pub SoFar : List ℕ → ℕ → ℕ → ℕ → ℕ → ℕ → Type 0
 SoFar s link above at label k = (labels : List (List ℕ)) → length labels ≡ suc above → LabelsAt s link (at - 47 * above) labels at → LabelsLeft s at labels label k
 
-pub labels_start : (s : List ℕ) (link above at : ℕ) → SoFar s link above at link above
+pub labels_start : (s : List ℕ) (link above at k : ℕ) → k ≡ above → SoFar s link above at link k
 unfolding SoFar
-labels_start s link above at labels n w = record { left = labels; number = n; there = w; same = λ t. refl }
+labels_start s link above at k e labels n w = rw e (record { left = labels; number = n; there = w; same = λ t. refl })
 
 module _ (s : List ℕ) (at label k : ℕ) (labels : List (List ℕ)) (inside : 47 * k ≤ at) (r : Bool)
     (tested : r ≡ equal (take 32 (drop label s)) (sha256 (take (at - 47 * k + 47 - (at - 47 * k)) (drop (at - 47 * k) s)))) where
@@ -66,11 +66,11 @@ module _ (s : List ℕ) (link above at label k : ℕ) (u : SoFar s link above at
         let x = u labels n w in
         sym (x.same t ∙ label_wrong s at label k labels inside r tested x.left x.number h x.there f t)
 
-    pub labels_more : not r ≡ false → SoFar s link above at (at - 47 * k + 15) (k - 1)
+    pub labels_more : not r ≡ false → (k' : ℕ) → k' ≡ k - 1 → SoFar s link above at (at - 47 * k + 15) k'
     unfolding SoFar
-    labels_more f labels n w =
+    labels_more f k' e labels n w =
         let x = u labels n w in
-        label_right s at label k labels inside r tested x.left x.number h x.there f x.same
+        rw e (label_right s at label k labels inside r tested x.left x.number h x.there f x.same)
 
   last_label_lem : k ≤ 0 → (to : ℕ) (t : SpeltTree) → take (to - at) (drop at s) ≡ bytes_of_page t → (left : List (List ℕ)) → length left ≡ suc k
       → LabelsAt s label (at - 47 * k) left at → labels_right left t ≡ equal (take 32 (drop label s)) (sha256 (take (to - at) (drop at s)))

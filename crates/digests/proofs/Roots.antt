@@ -14,7 +14,6 @@ use Rattle.word.specs.Word.{end_in}
 use Rattle.tree.specs.Tree.{page, Gap, empty, end, entry, Placed, top_layer, part, entries_of, page_of, gap_of, build, tree_of}
 use Rattle.tree.specs.Record.{Record, Spelt, spelt, spelt_from, records, placed}
 use Rattle.tree.specs.Table.{SpeltTree, bytes_of_page, table, digest_of, tree_of_set, table_of}
-use Rattle.tree.specs.Judge.{accepted}
 use Rattle.tree.proofs.Lists.{map_none}
 use Rattle.tree.proofs.Laws.{Accepted, accepted_table, one_tree}
 use Rattle.index.specs.Chain.{chain_if, chains, no_chain}

@@ -30,14 +30,12 @@ fn labels_hold(s: &[u8], link: usize, above: usize, page: usize, end: usize) -> 
     ensures { LabelsSay s.now link above page end result }
 {
     let mut label = link;
-    let mut k = above;
-    while 0 < k {
-        let at = page - 47 * k;
+    for k in 0..above {
+        let at = page - 47 * (above - k);
         if !link_holds(s, label, at, at + 47) {
             return false;
         }
         label = at + 15;
-        k -= 1;
     }
     link_holds(s, label, page, end)
 }
@@ -59,12 +57,10 @@ pub fn digests_hold(s: &[u8], row: &[u64], n: usize) -> bool
     requires { ChainsNoted s.now row.now n }
     ensures { DigestsSay s.now row.now n result }
 {
-    let mut i = 0;
-    while i < n {
+    for i in 0..n {
         if !chain_holds(s, row[2 * i], row[2 * i + 1]) {
             return false;
         }
-        i += 1;
     }
     true
 }

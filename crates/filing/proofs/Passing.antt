@@ -1,6 +1,6 @@
 -- Words that name the same digest, passed one after the other.
 use Prim.Native.Nat.{ℕ, ◌+◌, ◌≤◌, ◌<◌}
-use mathlib.Core.Path.{◌≡◌, sym, ◌∙◌}
+use mathlib.Core.Path.{◌≡◌, sym, subst, ◌∙◌}
 use mathlib.Core.Bool.{Bool, true, false, not, false≢true}
 use mathlib.Core.List.{List}
 use native.Mathlib.Omega.{arith}
@@ -35,5 +35,5 @@ module _ (s p words : List ℕ) (total j : ℕ) (digest : List ℕ) where
     pub passing_stops : k ≤ total → (link_named s p (get_or words k 0) ≡ digest → ⊥) → Passed s p words total j digest k
     passing_stops within f = record { ahead = ahead; within = within; same = same; other = λ h e. f e }
 
-    pub all_passed : k ≤ total → total ≤ k → Passed s p words total j digest k
-    all_passed within h = record { ahead = ahead; within = within; same = same; other = λ l e. absurd (omega arith) }
+    pub all_passed : k ≡ total → Passed s p words total j digest total
+    all_passed e = subst (Passed s p words total j digest) e (record { ahead = ahead; within = omega arith; same = same; other = λ l f. absurd (omega arith) })

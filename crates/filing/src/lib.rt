@@ -59,14 +59,12 @@ fn pass_words(
     requires { (j ≤ total) × (total ≤ length words.now) × InStrings words.now j total × (length digest.now ≡ digest_length) }
     ensures { Passed states.now sequence.now words.now total j digest.now result }
 {
-    let mut k = j;
-    while k < total {
+    for k in j..total {
         if !names_digest(states, sequence, words[k], digest) {
             return k;
         }
-        k += 1;
     }
-    k
+    total
 }
 
 // Files the n pages under the `total` words of links: word by word, the next digest that they name must be that of the next page. Its word
@@ -82,9 +80,8 @@ pub fn file_pages(
     requires { Staged states.now sequence.now words.old total pages.now n }
     ensures { (g : Staged states.now sequence.now words.old total pages.now n) → FilingSays states.now sequence.now words.old total pages.now n g.raws result words.new }
 {
-    let mut i = 0;
     let mut j = 0;
-    while i < n {
+    for i in 0..n {
         if total <= j {
             return false;
         }
@@ -95,7 +92,6 @@ pub fn file_pages(
         }
         words[i] = word;
         j = pass_words(states, sequence, words, total, j, &digest);
-        i += 1;
     }
     j == total
 }

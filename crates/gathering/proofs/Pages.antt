@@ -8,7 +8,6 @@ use native.Mathlib.Omega.{arith}
 use lib.ListN.{length, take, drop, get_or}
 use Rattle.bytestring.specs.Bytes.{front}
 use Rattle.bytestring.proofs.Lending.{lent, back}
-use Rattle.page.specs.Reading.{read}
 use Rattle.page.specs.Page.{RawPage, page_bytes, page}
 use Rattle.page.proofs.Readers.{read_sub}
 use Rattle.page_reader.specs.Place.{Reads, link_at, PageHere, PageIs}

@@ -13,6 +13,7 @@ use Rattle.states.specs.States.{bytes_or}
 use Rattle.summaries.specs.Summary.{Summary, summary}
 use Rattle.sequence.specs.Noted.{links_by_place}
 use Rattle.filing.specs.Filed.{no_page, pages_by_digest, Filed}
+use Rattle.gathering.specs.declared.FiledPages.{FiledPages}
 use Rattle.gathering.specs.Gathered.{gathered_from, WrittenFront}
 
 -- The bytes gathered from these digests, one after the other.
@@ -60,3 +61,22 @@ LinkGathered s p labels pages n link layer out r out' =
 abbrev pub EntriesGathered : List ℕ → List ℕ → List ℕ → List ℕ → ℕ → ℕ → ℕ → ℕ → List ℕ → Option ℕ → List ℕ → Type 0
 EntriesGathered s p labels pages n first count layer out r out' =
     (g : EntriesStand s p labels pages n first count layer) → WrittenFront (gathered_from_all g.tree.raws (links_after g.entries)) out r out'
+
+-- ---- the same of pages that are lent together
+abbrev pub TreeStandsIn : FiledPages → ℕ → ℕ → Type 0
+TreeStandsIn f i layer = TreeStands f.states.now f.sequence.now f.labels.now f.pages.now f.n i layer
+
+abbrev pub LinkStandsIn : FiledPages → ℕ → ℕ → Type 0
+LinkStandsIn f link layer = LinkStands f.states.now f.sequence.now f.labels.now f.pages.now f.n link layer
+
+abbrev pub EntriesStandIn : FiledPages → ℕ → ℕ → ℕ → Type 0
+EntriesStandIn f first count layer = EntriesStand f.states.now f.sequence.now f.labels.now f.pages.now f.n first count layer
+
+abbrev pub TreeGatheredIn : FiledPages → ℕ → ℕ → List ℕ → Option ℕ → List ℕ → Type 0
+TreeGatheredIn f i layer out r out' = TreeGathered f.states.now f.sequence.now f.labels.now f.pages.now f.n i layer out r out'
+
+abbrev pub LinkGatheredIn : FiledPages → ℕ → ℕ → List ℕ → Option ℕ → List ℕ → Type 0
+LinkGatheredIn f link layer out r out' = LinkGathered f.states.now f.sequence.now f.labels.now f.pages.now f.n link layer out r out'
+
+abbrev pub EntriesGatheredIn : FiledPages → ℕ → ℕ → ℕ → List ℕ → Option ℕ → List ℕ → Type 0
+EntriesGatheredIn f first count layer out r out' = EntriesGathered f.states.now f.sequence.now f.labels.now f.pages.now f.n first count layer out r out'

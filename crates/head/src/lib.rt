@@ -5,11 +5,10 @@ ghost use Rattle.std.specs.Prelude.{◌≡◌};
 ghost use Rattle.head.specs.Head.{zero_head, same_head};
 
 use answer::Refusal;
-use bytestring::same_bytes;
 use value::{DIGEST, Digest};
 
 // The record count, the root's layer and the root's digest.
-#[derive(Clone, Copy)]
+#[derive(Clone, Copy, PartialEq, Eq)]
 #[repr(C)]
 pub struct Head {
     pub count: u32,
@@ -39,13 +38,5 @@ pub fn zero_head() -> Head
 pub fn same_head(head: Head, other: Head) -> bool
     ensures { result ≡ same_head head other }
 {
-    if head.count != other.count {
-        return false;
-    }
-    if head.layer != other.layer {
-        return false;
-    }
-    let digest = head.digest;
-    let other_digest = other.digest;
-    same_bytes(&digest, &other_digest)
+    head == other
 }

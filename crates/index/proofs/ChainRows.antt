@@ -1,7 +1,7 @@
 -- The row of chains, as the walk fills it.
 use Rattle.page_reader.specs.declared.Stop.{Stop}
 use Rattle.index.specs.declared.walk.WalkState.{WalkState}
-use Rattle.std.specs.Prelude.{Result}
+use Rattle.std.specs.Prelude.{Result, Ok, Err}
 use Prim.Native.Nat.{ℕ, suc, ◌+◌, ◌-◌, ◌*◌, ◌≤◌, ◌<◌, zero}
 use mathlib.Core.Path.{◌≡◌, sym, subst}
 use mathlib.Core.List.{List, [], ◌∷◌, ◌++◌}
@@ -11,7 +11,7 @@ use lib.ListN.{length, take, drop, get_or, length-append}
 use Rattle.tree.specs.Tree.{page, Gap, empty, under, Entries, end, entry, items, items_under, items_from}
 use Rattle.tree.specs.Record.{Spelt}
 use Rattle.tree.specs.Table.{SpeltTree, bytes_of_page, table_under}
-use Rattle.index.specs.Walk.{Counted, Left}
+use Rattle.index.specs.Walk.{ChainNoted}
 use Rattle.index.specs.Chain.{Chain, labels_on, chain_if, chains, chains_under, chains_from, only_link, LabelsAt, ChainsAt, no_chain, ChainWords}
 
 -- ---- rows
@@ -33,11 +33,10 @@ row_kept s row row' k (c ∷ cs) e f h = (
 )
 
 -- ---- a chain is left
-pub counted_is : (k from : ℕ) {w v : Result WalkState Stop} → Counted k from w → w ≡ v → Counted k from v
-counted_is k from h e = subst (Counted k from) e h
-
-pub left_is : (row : List ℕ) (k at link above to from : ℕ) {w v : Result WalkState Stop} (row' : List ℕ) → Left row k at link above to from v row' → w ≡ v → Left row k at link above to from w row'
-left_is row k at link above to from row' h e = subst (λ (x : Result WalkState Stop). Left row k at link above to from x row') (sym e) h
+-- it is noted when the walk has gone through all that is below it
+abbrev pub Left : List ℕ → ℕ → ℕ → ℕ → ℕ → ℕ → ℕ → Result WalkState Stop → List ℕ → Type 0
+Left row k at link above to from (Ok st) row' = ChainNoted row k at link above to from (st.count - from) (st.chains - (k + 1)) row'
+Left row k at link above to from (Err stop) row' = row' ≡ row
 
 -- ---- labels
 pub labels_end : (s : List ℕ) (link at : ℕ) (labels : List (List ℕ)) (to : ℕ) → LabelsAt s link at labels to → at + 47 * (length labels - 1) ≡ to

@@ -24,7 +24,7 @@ use Rattle.page.proofs.Readers.{read_sub, andThen-inv}
 use Rattle.page_reader.proofs.Places.{then_stops}
 use Rattle.page_reader.proofs.Located.{entry_place}
 use Rattle.page_keys.specs.Buffer.{HoldsKey, Extended, PrefixIs}
-use Rattle.tree.specs.Tree.{page, Gap, empty, under, Entries, end, entry, items_under}
+use Rattle.tree.specs.Tree.{Gap, empty, under, Entries, end, entry, items_under}
 use Rattle.tree.specs.Record.{Spelt, record_of}
 use Rattle.tree.specs.Table.{link_of, table_under, read_under, read_from, read_tree}
 use Rattle.tree.specs.Judge.{prefixes_right, prefixes_right_under, prefixes_right_from}
@@ -47,6 +47,10 @@ page_is s at w e = subst (PageIs s at) e w
 pub says_is : (s index row last : List ℕ) (level link above : ℕ) (st : WalkState) (index' row' last' : List ℕ) {r x : Result WalkState Stop}
     → PageSays s index row last level link above st r index' row' last' → r ≡ x → PageSays s index row last level link above st x index' row' last'
 says_is s index row last level link above st index' row' last' w e = subst (λ (y : Result WalkState Stop). PageSays s index row last level link above st y index' row' last') e w
+
+pub entries_are : (s index row last : List ℕ) (level pg first n : ℕ) (st : WalkState) (index' row' last' : List ℕ) {r x : Result WalkState Stop}
+    → EntriesSay s index row last level pg first n st r index' row' last' → r ≡ x → EntriesSay s index row last level pg first n st x index' row' last'
+entries_are s index row last level pg first n st index' row' last' w e = subst (λ (y : Result WalkState Stop). EntriesSay s index row last level pg first n st y index' row' last') e w
 
 -- ---- gaps
 -- what is under the gap whose link stands at `link`, or nothing where `link` is 0

@@ -30,15 +30,15 @@ use Rattle.tree.specs.Place.{first_entry}
 use Rattle.word.specs.Word.{RecordWord, SpanWord}
 use Rattle.index.specs.Slot.{slots, slots_under, slots_from, bare, filled, lawful_slots, rising_after, last_after}
 use Rattle.index.specs.Chain.{Chain, labels_on, chain_if, chains, chains_under, chains_from, LabelsAt, ChainWords, ChainsAt}
-use Rattle.index.specs.Walk.{DepthWord, HoldsWords, ChainNoted, Left, holding, Moved, PartWalked, PageSays, EntriesSay, PageTaken, Entered, Counted, WalkSays}
+use Rattle.index.specs.Walk.{DepthWord, HoldsWords, ChainNoted, holding, Moved, PartWalked, PageSays, EntriesSay, PageTaken, Entered, WalkSays}
 use Rattle.index.specs.declared.walk.WalkState.{WalkState}
 use Rattle.page_reader.proofs.Spelling.{page_count}
 use Rattle.index.proofs.Moves.{moved_seq}
 use Rattle.index.proofs.Lengths.{from_entries, none_read, tree_page_ends, tree_page_part, tree_page_count, tree_page_first, link_some, link_page}
 use Rattle.index.proofs.PageTests.{page_holding}
 use Rattle.index.proofs.SlotLaws.{slots_items, slots_count}
-use Rattle.index.proofs.ChainRows.{row_kept, labels_end, labels_linked, labels_more, few_chains_lem}
-use Rattle.index.proofs.EntrySteps.{page_is, says_is, GapSays, gap_none, gap_page, gap_ends}
+use Rattle.index.proofs.ChainRows.{Left, row_kept, labels_end, labels_linked, labels_more, few_chains_lem}
+use Rattle.index.proofs.EntrySteps.{page_is, says_is, entries_are, GapSays, gap_none, gap_page, gap_ends}
 
 -- ---- below the deepest page
 tree_deep : (n : ℕ) (l : List ℕ) (b : ℕ) → n ≡ 0 → read_tree n (b ∷ l) ≡ departs
@@ -408,12 +408,11 @@ page_far s index row last level link st index' row' last' got st' f fits w q =
 -- what was counted before the entries of a page can be taken from what is counted after them
 pub entries_counted : (s index row last : List ℕ) (level at first n : ℕ) (st : WalkState) (index' row' last' : List ℕ) (r : Result WalkState Stop) (es : List RawEntry) (past k from : ℕ)
     → times n entry_reader (drop first s) ≡ read es (drop past s) → from ≤ st.count → k < st.chains
-    → EntriesSay s index row last level at first n st r index' row' last' → Counted k from r
+    → EntriesSay s index row last level at first n st r index' row' last' → (st' : WalkState) → r ≡ Ok st' → (from ≤ st'.count) × (k < st'.chains)
 unfolding EntriesSay
-entries_counted s index row last level at first n st index' row' last' (Ok st') es past k from q h g w =
-    let o = w es past q in
+entries_counted s index row last level at first n st index' row' last' r es past k from q h g w st' e =
+    let o = entries_are s index row last level at first n st index' row' last' w e es past q in
     (omega (arith, o.moved.count), omega (arith, o.moved.chain_count))
-entries_counted s index row last level at first n st index' row' last' (Err stop) es past k from q h g w = tt
 
 -- ---- the whole register
 nothing_indexed : (index : List ℕ) → HoldsWords DepthWord index []

@@ -67,16 +67,6 @@ pub record ChainNoted (row : List ℕ) (k at link above to from records below : 
       → (w v : ℕ) × (row' ≡ set (set row (2 * k) w) (2 * k + 1) v) × RecordWord w at link above × SpanWord v to from records below
   pub full : length row ≤ 2 * k + 1 → row' ≡ row
 
--- A chain is noted when the walk has gone through all that is below it.
-abbrev pub Left : List ℕ → ℕ → ℕ → ℕ → ℕ → ℕ → ℕ → Result WalkState Stop → List ℕ → Type 0
-Left row k at link above to from (Ok st) row' = ChainNoted row k at link above to from (st.count - from) (st.chains - (k + 1)) row'
-Left row k at link above to from (Err stop) row' = row' ≡ row
-
--- What is counted when the walk has gone through can be taken from what is counted now.
-abbrev pub Counted : ℕ → ℕ → Result WalkState Stop → Type 0
-Counted k from (Ok st) = (from ≤ st.count) × (k < st.chains)
-Counted k from (Err stop) = Unit {0}
-
 -- ---- one step of the walk
 -- From the state st, the index, the row of chains and the key of the record before, the walk passed these slots and chains, and the pages it
 -- passed hold these tests. The test of prefixes may fail where they are right, but not hold where one is wrong.

@@ -1,8 +1,8 @@
 // The walk over a register's pages.
-ghost use Rattle.std.specs.Prelude.{◌≡◌, cond, ◌&&◌, ◌+◌, ◌^◌, ◌≤◌, ◌<◌, length, eqb};
+ghost use Rattle.std.specs.Prelude.{◌≡◌, cond, ◌+◌, ◌-◌, ◌^◌, ◌≤◌, ◌<◌, length, eqb};
 ghost use Rattle.limits.specs.Limits.{deepest, longest_key};
 ghost use Rattle.bytestring.specs.Bytes.{Bytes};
-ghost use Rattle.index.specs.Walk.{page_holds, Taken, PageTaken, Entered, Counted, Left, PageSays, EntriesSay, WalkSays};
+ghost use Rattle.index.specs.Walk.{page_holds, ChainNoted, Taken, PageTaken, Entered, PageSays, EntriesSay, WalkSays};
 
 use crate::words::{note, note_chain};
 use limits::{DEEPEST, LONGEST_KEY};
@@ -20,13 +20,6 @@ pub struct WalkState {
     pub lawful: bool,
     pub rising: bool,
     pub filled: bool,
-}
-
-// Both tests hold.
-fn both(a: bool, b: bool) -> bool
-    ensures { result ≡ (a && b) }
-{
-    if a { b } else { false }
 }
 
 // Whether a page may stand where it stands: a linked page has an entry or a left link, the root an entry or no left link.
@@ -63,14 +56,12 @@ fn take_record(
     note(index, k, page, at, level);
     remember(last, buffer, size);
     WalkState {
-        next: st.next,
         count: k + 1,
-        chains: st.chains,
         last: size,
-        prefixes: both(st.prefixes, fits),
-        lawful: both(st.lawful, lawful),
-        rising: both(st.rising, rising),
-        filled: st.filled,
+        prefixes: st.prefixes & fits,
+        lawful: st.lawful & lawful,
+        rising: st.rising & rising,
+        ..st
     }
 }
 
@@ -78,18 +69,11 @@ fn take_record(
 fn take_page(link: usize, p: PageAt, st: WalkState) -> WalkState
     ensures { PageTaken link p st result }
 {
-    let end = p.end;
-    let count = p.count;
-    let left = p.left;
+    let holds = page_holds(link, p.count, p.left);
     WalkState {
-        next: end,
-        count: st.count,
-        chains: st.chains,
-        last: st.last,
-        prefixes: st.prefixes,
-        lawful: st.lawful,
-        rising: st.rising,
-        filled: both(st.filled, page_holds(link, count, left)),
+        next: p.end,
+        filled: st.filled & holds,
+        ..st
     }
 }
 
@@ -99,14 +83,8 @@ fn enter(st: WalkState) -> WalkState
     ensures { Entered st result }
 {
     WalkState {
-        next: st.next,
-        count: st.count,
         chains: st.chains + 1,
-        last: st.last,
-        prefixes: st.prefixes,
-        lawful: st.lawful,
-        rising: st.rising,
-        filled: st.filled,
+        ..st
     }
 }
 
@@ -140,21 +118,14 @@ fn leave(
     above: usize,
     end: usize,
     from: usize,
-    walked: Result<WalkState, Stop>,
-) -> Result<WalkState, Stop>
-    requires { (page < 2 ^ 24) × (link < 2 ^ 24) × (above < 256) × (end < 2 ^ 24) × (k < 2 ^ 32) × Counted k from walked }
-    ensures same { result ≡ walked }
-    ensures noted { Left row.old k page link above end from walked row.new }
+    st: WalkState,
+)
+    requires { (page < 2 ^ 24) × (link < 2 ^ 24) × (above < 256) × (end < 2 ^ 24) × (k < 2 ^ 32) × (from ≤ st.count) × (k < st.chains) }
+    ensures { ChainNoted row.old k page link above end from (st.count - from) (st.chains - (k + 1)) row.new }
 {
-    match walked {
-        Ok(st) => {
-            let records = st.count - from;
-            let below = st.chains - (k + 1);
-            note_chain(row, k, page, link, above, end, from, records, below);
-            Ok(st)
-        }
-        Err(stop) => Err(stop),
-    }
+    let records = st.count - from;
+    let below = st.chains - (k + 1);
+    note_chain(row, k, page, link, above, end, from, records, below);
 }
 
 // The page at st.next, level pages below the root, and all pages below it. The link at the place link (0 for the root) leads to the first
@@ -198,12 +169,14 @@ fn walk_page(
     let k = cur.chains;
     let entered = enter(cur);
     if left == 0 {
-        let walked = walk_entries(s, index, row, last, level, at, first, n, entered);
-        return leave(row, k, at, link, above, end, from, walked);
+        let walked = walk_entries(s, index, row, last, level, at, first, n, entered)?;
+        leave(row, k, at, link, above, end, from, walked);
+        return Ok(walked);
     }
     let next = walk_page(s, index, row, last, level + 1, left, 0, entered)?;
-    let walked = walk_entries(s, index, row, last, level, at, first, n, next);
-    leave(row, k, at, link, above, end, from, walked)
+    let walked = walk_entries(s, index, row, last, level, at, first, n, next)?;
+    leave(row, k, at, link, above, end, from, walked);
+    Ok(walked)
 }
 
 // The n entries from first on in the page at the place page, and all pages below them. The page was read whole before, so that its entries

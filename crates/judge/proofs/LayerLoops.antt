@@ -1,7 +1,9 @@
 -- The layers of a row of records, one after the other.
+use Rattle.std.specs.Prelude.{Option, Some, None}
+use Rattle.std.specs.Option.{unwrap_or}
 use Prim.Native.Nat.{ℕ, suc, ◌+◌, ◌-◌, ◌≤◌, ◌<◌}
 use mathlib.Core.Path.{◌≡◌, refl, sym, ap, ◌∙◌}
-use mathlib.Core.Bool.{true, false, cond, ◌&&◌, false≢true}
+use mathlib.Core.Bool.{true, false, ◌&&◌, false≢true}
 use mathlib.Core.List.{List, [], ◌∷◌}
 use native.Mathlib.Omega.{arith}
 use native.Mathlib.Numerals.{add-one}
@@ -10,7 +12,6 @@ use lib.ListN.{length, take, drop, get_or, set, length-set, drop_of_length-le}
 use lib.Seq.{drop-cons, get_or-set_same, get_or-set_other}
 use borrow.Author.Tests.{eq-eqb, ne_eqb, eqb-true, eqb-false}
 use borrow.Table.Steps.{cases}
-use Rattle.key.specs.Key.{lawful}
 use Rattle.key.specs.Layer.{layer_of}
 use Rattle.key.proofs.Laws.{layer_le}
 use Rattle.tree.specs.Record.{Record}
@@ -24,19 +25,20 @@ use Rattle.row.proofs.Rows.{source_same, word_record}
 use Rattle.judge.specs.Layers.{Depths, top_of, LayersSay}
 
 -- Of the slots xs the first i have their layers in the words; the other words are as they were.
-pub record LayersDone (xs : List Slot) (index₀ : List ℕ) (top i : ℕ) (index : List ℕ) : Type 0 where
+pub record LayersDone (xs : List Slot) (index₀ : List ℕ) (first : Option ℕ) (i : ℕ) (index : List ℕ) : Type 0 where
   pub size : length index ≡ length index₀
   pub done : (j : ℕ) → j < i → WordOf (get_or index j 0) (get_or xs j blank)
   pub left : (j : ℕ) → i ≤ j → get_or index j 0 ≡ get_or index₀ j 0
-  pub highest : 0 < i → top ≡ top_of xs
+  pub none_done : i ≡ 0 → first ≡ None
+  pub highest : 0 < i → first ≡ Some (top_of xs)
   pub same : level_slots (top_of xs) xs ≡ level_slots (top_of xs) (drop i xs)
 
-unfoldable pub LayersSoFar : List ℕ → List ℕ → ℕ → ℕ → ℕ → List ℕ → Type 0
-LayersSoFar s index₀ n top i index = (d : Depths s index₀ n) → LayersDone d.slots index₀ top i index
+unfoldable pub LayersSoFar : List ℕ → List ℕ → ℕ → Option ℕ → ℕ → List ℕ → Type 0
+LayersSoFar s index₀ n first i index = (d : Depths s index₀ n) → LayersDone d.slots index₀ first i index
 
-pub layers_start : (s index : List ℕ) (n : ℕ) → LayersSoFar s index n 0 0 index
+pub layers_start : (s index : List ℕ) (n : ℕ) → LayersSoFar s index n None 0 index
 unfolding LayersSoFar
-layers_start s index n d = record { size = refl; done = λ j h. absurd (omega arith); left = λ j h. refl; highest = λ h. absurd (omega arith); same = refl }
+layers_start s index n d = record { size = refl; done = λ j h. absurd (omega arith); left = λ j h. refl; none_done = λ h. refl; highest = λ h. absurd (omega arith); same = refl }
 
 top_first : (xs : List Slot) → 0 < length xs → top_of xs ≡ layer_of (key_of (get_or xs 0 blank)) + (get_or xs 0 blank).depth
 unfolding top_of
@@ -74,14 +76,14 @@ module _ {s index₀ : List ℕ} {n : ℕ} (d : Depths s index₀ n) (i : ℕ) (
     sum_is : layer + depth ≡ layer_of (key_of x) + x.depth
     sum_is = omega (arith, layer_is, de, word_of.third)
 
-    module _ (top top' : ℕ) (te : top' ≡ cond (eqb i 0) (layer + depth) top) (index : List ℕ) (u : LayersDone d.slots index₀ top i index) where
+    module _ (first : Option ℕ) (top' : ℕ) (te : top' ≡ unwrap_or first (layer + depth)) (index : List ℕ) (u : LayersDone d.slots index₀ first i index) where
       top_is : top' ≡ top_of d.slots
       top_is =
           cases (eqb i 0)
           (λ q.
           let z : i ≡ 0 = eqb-true i 0 q in
-          te ∙ rw q (sum_is ∙ rw z (sym (top_first d.slots (omega (arith, d.number))))))
-          (λ q. te ∙ rw q (u.highest (omega (arith, eqb-false i 0 q))))
+          te ∙ rw (u.none_done z) (sum_is ∙ rw z (sym (top_first d.slots (omega (arith, d.number))))))
+          (λ q. te ∙ rw (u.highest (omega (arith, eqb-false i 0 q))) refl)
 
       next : level_slots (top_of d.slots) d.slots
           ≡ (eqb (layer + depth) top' && level_slots (top_of d.slots) (drop (suc i) d.slots))
@@ -91,7 +93,7 @@ module _ {s index₀ : List ℕ} {n : ℕ} (d : Depths s index₀ n) (i : ℕ) (
       differs : (layer + depth ≡ top' → ⊥) → false ≡ level_slots (top_of d.slots) d.slots
       differs f = sym (next ∙ rw (ne_eqb (layer + depth) top' f))
 
-      goes_on : layer + depth ≡ top' → (w' : ℕ) → RecordWord w' (page_in w) (entry_in w) layer → LayersDone d.slots index₀ top' (i + 1) (set index i w')
+      goes_on : layer + depth ≡ top' → (w' : ℕ) → RecordWord w' (page_in w) (entry_in w) layer → LayersDone d.slots index₀ (Some top') (i + 1) (set index i w')
       goes_on q w' a =
           let room : i < length index = omega (arith, u.size, d.room) in
           record {
@@ -103,12 +105,13 @@ module _ {s index₀ : List ℕ} {n : ℕ} (d : Depths s index₀ n) (i : ℕ) (
                 rw (same, get_or-set_same index i w' 0 room) (record { page = a.page ∙ word_of.page; entry = a.entry ∙ word_of.entry; layer = λ _. a.third ∙ layer_is; first = a.first }))
                 (λ z. rw (get_or-set_other index i j w' 0 (eqb-false j i z)) (u.done j (omega (arith, eqb-false j i z))));
             left = λ j g. get_or-set_other index i j w' 0 (λ z. omega arith) ∙ u.left j (omega arith);
-            highest = λ _. top_is;
+            none_done = λ z. absurd (omega arith);
+            highest = λ _. ap Some top_is;
             same = next ∙ rw (eq-eqb (layer + depth) top' q, add-one i);
           }
 
 -- ---- the loop
-module _ (s index₀ : List ℕ) (n top i : ℕ) (index : List ℕ) (u : LayersSoFar s index₀ n top i index) where
+module _ (s index₀ : List ℕ) (n : ℕ) (first : Option ℕ) (i : ℕ) (index : List ℕ) (u : LayersSoFar s index₀ n first i index) where
   pub layers_end : n ≤ i → LayersSay s index₀ n true index
   unfolding LayersSoFar HoldsWords level_slots
   layers_end h d =
@@ -122,17 +125,17 @@ module _ (s index₀ : List ℕ) (n top i : ℕ) (index : List ℕ) (u : LayersS
 
     module _ (keys notes : List ℕ) (found : Recalled) (r : Recalls s s (get_or index i 0) keys notes found) (to : ℕ) (ends : to ≡ found.from + found.size)
         (layer : ℕ) (ly : layer ≡ layer_of (take (to - found.from) (drop found.from keys))) (depth : ℕ) (de : depth ≡ layer_in (get_or index i 0))
-        (top' : ℕ) (te : top' ≡ cond (eqb i 0) (layer + depth) top) where
+        (top' : ℕ) (te : top' ≡ unwrap_or first (layer + depth)) where
       pub layers_differ : (layer + depth ≡ top' → ⊥) → LayersSay s index₀ n false index
       unfolding LayersSoFar
       layers_differ f d =
-          (differs d i h (get_or index i 0) ((u d).left i (omega arith)) keys notes found r to ends layer ly depth de top top' te index (u d) f, λ z. absurd (false≢true z))
+          (differs d i h (get_or index i 0) ((u d).left i (omega arith)) keys notes found r to ends layer ly depth de first top' te index (u d) f, λ z. absurd (false≢true z))
 
       pub layers_more : layer + depth ≡ top' → (w' : ℕ) → RecordWord w' (page_in (get_or index i 0)) (entry_in (get_or index i 0)) layer
-          → LayersSoFar s index₀ n top' (i + 1) (set index i w')
+          → LayersSoFar s index₀ n (Some top') (i + 1) (set index i w')
       unfolding LayersSoFar
       layers_more q w' a d =
-          goes_on d i h (get_or index i 0) ((u d).left i (omega arith)) keys notes found r to ends layer ly depth de top top' te index (u d) q w' a
+          goes_on d i h (get_or index i 0) ((u d).left i (omega arith)) keys notes found r to ends layer ly depth de first top' te index (u d) q w' a
 
 pub layer_small : (layer : ℕ) (k : List ℕ) → layer ≡ layer_of k → layer < 256
 layer_small layer k e = omega (arith, e, layer_le k)

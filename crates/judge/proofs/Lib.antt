@@ -4,3 +4,5 @@ pub mod RightTree
 pub mod RightChains
 pub mod PrefixLoops
 pub mod Verdicts
+pub mod CutRows
+pub mod Accepting

@@ -12,11 +12,11 @@ use borrow.Author.Tests.{le-leb, lt-leb, not-true, not-false}
 use Rattle.limits.specs.Limits.{longest, deepest, most}
 use Rattle.bytestring.proofs.Tools.{and_inv}
 use Rattle.bytestring.specs.Bytes.{Bytes}
-use Rattle.page_reader.specs.Place.{read_stop}
+use Rattle.page_reader.specs.Place.{read_stop, refusal_of}
 use Rattle.page_reader.specs.declared.Stop.{Stop}
 use Rattle.page_reader.specs.declared.Stop.TheVariants.{EndsEarly, Departs}
 use Rattle.answer.specs.declared.Refusal.TheVariants.{TooLong, BytesFollow, TooManyRecords, WrongPrefix, UnlawfulKey, KeysNotRising, WrongTree, WrongDigest}
-use Rattle.answer.specs.declared.Refusal.TheVariants as refusals
+use Rattle.answer.specs.declared.Refusal.{Refusal}
 use Rattle.tree.specs.Record.{records}
 use Rattle.tree.specs.Table.{SpeltTree, read_tree}
 use Rattle.tree.specs.Judge.{due, is_none, prefixes_right, all_lawful, rising, right_tree, digests_right, tests, refused, judge, judge_read}
@@ -43,17 +43,18 @@ pub too_long : (s : List ℕ) → longest < length s → judge s ≡ refused Too
 unfolding judge
 too_long s h = rw (lt-leb (length s) longest h)
 
+read_stopped : (stop : Stop) → judge_read (read_stop stop) ≡ refused (refusal_of stop)
+unfolding judge_read
+read_stopped EndsEarly = refl
+read_stopped Departs = refl
+
 module _ (s index row : List ℕ) (w : Result WalkState Stop) (stop : Stop) (size : length s ≤ longest) (says : WalkSays s w index row) (e : w ≡ Err stop) where
   stops : read_tree deepest s ≡ read_stop stop
   stops = subst (λ v. WalkSays s v index row) e says
 
-  pub ends_early_lem : stop ≡ EndsEarly → judge s ≡ refused refusals.EndsEarly
-  unfolding judge judge_read
-  ends_early_lem q = rw (le-leb (length s) longest size, stops, q)
-
-  pub departs_early : stop ≡ Departs → judge s ≡ refused refusals.Departs
-  unfolding judge judge_read
-  departs_early q = rw (le-leb (length s) longest size, stops, q)
+  pub walk_stopped : (r : Refusal) → r ≡ refusal_of stop → judge s ≡ refused r
+  unfolding judge
+  walk_stopped r q = rw (q, le-leb (length s) longest size, stops) (read_stopped stop)
 
 pub walked_whole : (s index row : List ℕ) (w : Result WalkState Stop) (st : WalkState) → WalkSays s w index row → w ≡ Ok st → Walks s index row st
 walked_whole s index row w st says e = subst (λ v. WalkSays s v index row) e says

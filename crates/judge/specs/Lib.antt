@@ -1,3 +1,4 @@
 pub mod Layers
 pub mod Prefixes
+pub mod Standing
 pub mod Verdict

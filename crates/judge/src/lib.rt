@@ -3,6 +3,7 @@
 // calls.
 #![tactic(auto)]
 
+pub mod accepted; // a register that is accepted, with its rows
 mod layers; // the layers of the keys
 mod prefixes; // the prefix lengths, where keys may be long
 
@@ -17,7 +18,6 @@ use answer::Refusal;
 use digests::digests_hold;
 use index::walk::{WalkState, walk};
 use limits::MOST;
-use page_reader::Stop;
 
 // Whether all prefix lengths are right. The walk may have failed to tell: then the pages are read again, one half of the row after the other.
 // A function that is called in two places has a frame of its own: the buffer of 65,536 bytes is not on the stack while the pages are walked.
@@ -82,11 +82,6 @@ pub fn judge(s: &[u8], index: &mut [u64], row: &mut [u64]) -> Result<(usize, usi
     if limits::LONGEST < s.len() {
         return Err(Refusal::TooLong);
     }
-    match walk(s, index, row) {
-        Ok(st) => verdict_of(s, index, row, st),
-        Err(stop) => match stop {
-            Stop::EndsEarly => Err(Refusal::EndsEarly),
-            Stop::Departs => Err(Refusal::Departs),
-        },
-    }
+    let st = walk(s, index, row)?;
+    verdict_of(s, index, row, st)
 }

@@ -14,10 +14,10 @@ fn page_prefixes(s: &[u8], word: u64, buffer: &mut [u8]) -> bool
     requires { numbers ≤ length buffer.old }
     ensures { PagePrefixes s.now (page_in word) result }
 {
-    match read_page(s, page_in(word)) {
-        Ok(p) => prefixes_fit(s, p.first, p.count, buffer),
-        Err(_) => true,
-    }
+    let Ok(p) = read_page(s, page_in(word)) else {
+        return true;
+    };
+    prefixes_fit(s, p.first, p.count, buffer)
 }
 
 // Whether those of the pages of the first n chains of a row are right.
@@ -26,12 +26,10 @@ pub fn prefixes_hold(s: &[u8], row: &[u64], n: usize) -> bool
     ensures { RowPrefixes s.now row.now n result }
 {
     let mut buffer = [0u8; NUMBERS];
-    let mut i = 0;
-    while i < n {
+    for i in 0..n {
         if !page_prefixes(s, row[2 * i], &mut buffer) {
             return false;
         }
-        i += 1;
     }
     true
 }

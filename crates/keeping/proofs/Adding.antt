@@ -2,7 +2,7 @@
 use Rattle.std.specs.Prelude.{Option, Some, None}
 use Prim.Native.Nat.{ℕ, ◌+◌, ◌≤◌, ◌<◌}
 use mathlib.Core.Path.{◌≡◌, refl, sym, ap, subst, ◌∙◌}
-use mathlib.Core.Bool.{Bool, true, false, false≢true}
+use mathlib.Core.Bool.{Bool, true, false}
 use mathlib.Core.Logic.{◌⊎◌, inl, inr}
 use mathlib.Core.List.{List, [], ◌∷◌, ◌++◌}
 use native.Mathlib.Omega.{arith}
@@ -26,6 +26,7 @@ use Rattle.keeping.specs.declared.PagePart.{PagePart}
 use Rattle.keeping.specs.declared.Progress.{Progress}
 use Rattle.keeping.specs.Kept.{LabelledPages, ToKeep}
 use Rattle.keeping.specs.Inner.{string_of, part_of, InString, PartStands, PageBegins, PastPage, PutBehind, AddSays, TakenFrom, NextIs, LastWritten, KeptSoFar, InRows, DigestShared, progress_after, PassedOver, StepSays}
+use Rattle.std.proofs.lemmas.Option.{none-some, same_Some}
 use Rattle.keeping.proofs.Members.{rising_snoc, concat_snoc}
 use Rattle.keeping.proofs.Parts.{in_register, in_sequence, part_length}
 use Rattle.keeping.proofs.Places.{following_begins}
@@ -121,7 +122,7 @@ module _ {s p labels marks : List ℕ} {n : ℕ} {raws : List RawPage} (f : Labe
 
   -- ---- what is written so far goes on
   abbrev turned : ℕ → ℕ → ℕ → ℕ → PagePart → Progress
-  turned i j at length t = record { i = i; j = j; place = at; length = length; any = true; last = t; shared = false }
+  turned i j at length t = record { i = i; j = j; place = at; length = length; last = Some t }
 
   module _ (old : List ℕ) (g : Progress) (out : List ℕ) (u : KeptSoFar raws p marks n register rootEnd chains words m old g out)
       (t : PagePart) (b : List ℕ) (i' j' at : ℕ) (w : Turn g.i g.j t b i' j' at) where
@@ -129,25 +130,25 @@ module _ {s p labels marks : List ℕ} {n : ℕ} {raws : List RawPage} (f : Labe
     wider = widen g.i g.j i' j' w.fewer.0 w.fewer.1
 
     -- the last page has the same bytes
-    repeats : g.any ≡ true → part_of (string_of p register t) t ≡ part_of (string_of p register g.last) g.last
+    repeats : (l : PagePart) → g.last ≡ Some l → part_of (string_of p register t) t ≡ part_of (string_of p register l) l
         → KeptSoFar raws p marks n register rootEnd chains words m old (turned i' j' at g.length t) out
-    repeats a e =
-        let v = u.last a in
+    repeats l a e =
+        let v = u.last l a in
         let q : v.bytes ≡ b = sym v.stands.part ∙ sym e ∙ w.stands.part in
         record {
           written = u.written;
           rise = u.rise;
           no_other = λ c x. wider c (u.no_other c x);
           all = λ c x. old_or_last c q v.there (w.only c x);
-          none = λ z. absurd (false≢true (sym z));
-          last = λ _. record {
+          none = λ z. absurd (none-some t (sym z));
+          last = λ l x. subst (λ (y : PagePart). LastWritten raws n p register rootEnd chains words m u.written (turned i' j' at g.length t) y) (same_Some t l x) (record {
             bytes = b;
             stands = w.stands;
             there = rw q at v.there;
             greatest = rw q at v.greatest;
             page_ahead = w.page_ahead;
             word_ahead = w.word_ahead;
-          };
+          });
           size = u.size;
           output = u.output;
         }
@@ -157,15 +158,17 @@ module _ {s p labels marks : List ℕ} {n : ℕ} {raws : List RawPage} (f : Labe
         old_or_last c q x (inr y) = subst (λ (z : List ℕ). Among z u.written) (q ∙ sym y) x
 
     -- the last page, if there is one, has another digest
-    module _ (other : g.any ≡ true → t.digest ≡ g.last.digest → ⊥) where
+    module _ (other : (l : PagePart) → g.last ≡ Some l → t.digest ≡ l.digest → ⊥) where
       greater : (c : List ℕ) → Among c u.written → less (sha256 c) (sha256 b) ≡ true
-      greater c x = cases g.any (λ a. after a (u.last a)) (λ a. absurd (subst (Among c) (u.none a) x))
+      greater c x = by_last g.last refl
         where
-          after : g.any ≡ true → LastWritten raws n p register rootEnd chains words m u.written g → less (sha256 c) (sha256 b) ≡ true
-          after a v =
+          by_last : (o : Option PagePart) → g.last ≡ o → less (sha256 c) (sha256 b) ≡ true
+          by_last None q = absurd (subst (Among c) (u.none q) x)
+          by_last (Some l) q =
+              let v = u.last l q in
               rises_before (sha256 c) (sha256 v.bytes) (sha256 b) (v.greatest c x)
               (before_unless_same (sha256 v.bytes) (sha256 b) (w.ahead (sha256 v.bytes) v.page_ahead v.word_ahead)
-              (λ e. other a (w.stands.digest ∙ e ∙ sym v.stands.digest)))
+              (λ e. other l q (w.stands.digest ∙ e ∙ sym v.stands.digest)))
 
       abbrev more : List (List ℕ)
       more = u.written ++ (b ∷ [])
@@ -204,15 +207,15 @@ module _ {s p labels marks : List ℕ} {n : ℕ} {raws : List RawPage} (f : Labe
             rise = rising_snoc u.written b u.rise greater;
             no_other = taken_more;
             all = λ c x. all_more c (w.only c x);
-            none = λ z. absurd (false≢true (sym z));
-            last = λ _. record {
+            none = λ z. absurd (none-some t (sym z));
+            last = λ l x. subst (λ (y : PagePart). LastWritten raws n p register rootEnd chains words m more (turned i' j' at r t) y) (same_Some t l x) (record {
               bytes = b;
               stands = w.stands;
               there = among_new;
               greatest = greatest_more;
               page_ahead = w.page_ahead;
               word_ahead = w.word_ahead;
-            };
+            });
             size = omega (arith, put.end, u.size, length_more, ap length w.stands.part);
             output = λ h.
                 let before : out ≡ front (concat (λ c. c) u.written) old = u.output (omega (arith, length_more)) in
@@ -223,15 +226,15 @@ module _ {s p labels marks : List ℕ} {n : ℕ} {raws : List RawPage} (f : Labe
                 put.put room ∙ rw (taken, w.stands.part, before, concat_snoc u.written b) (front_behind old (concat (λ c. c) u.written) b);
           }
 
-    adds : (out' : List ℕ) (r : ℕ) → length out ≡ length old → AddSays p register g.any g.last t out g.length (Some r) out'
+    adds : (out' : List ℕ) (r : ℕ) → length out ≡ length old → AddSays p register g.last t out g.length (Some r) out'
         → KeptSoFar raws p marks n register rootEnd chains words m old (turned i' j' at r t) out'
-    adds out' r same (inl (a, e, q, o)) = rw (q, o) (repeats a e)
+    adds out' r same (inl (l, a, e, q, o)) = rw (q, o) (repeats l a e)
     adds out' r same (inr (x, put)) = adds_new x out' r same put
 
-    unequal_share : (out' : List ℕ) → AddSays p register g.any g.last t out g.length None out'
+    unequal_share : (out' : List ℕ) → AddSays p register g.last t out g.length None out'
         → DigestShared raws marks n register rootEnd chains words m
-    unequal_share out' (a, d, x) =
-        let v = u.last a in
+    unequal_share out' (l, a, d, x) =
+        let v = u.last l a in
         record {
           one = b;
           other = v.bytes;
@@ -244,8 +247,8 @@ module _ {s p labels marks : List ℕ} {n : ℕ} {raws : List RawPage} (f : Labe
   -- the bound of the length grows with the rows
   stays_low : (g : Progress) → InRows p n m g → (t : PagePart) (b : List ℕ) (i' j' at : ℕ)
       → Turn g.i g.j t b i' j' at → (out out' : List ℕ) (r : ℕ)
-      → AddSays p register g.any g.last t out g.length (Some r) out' → InRows p n m (turned i' j' at r t)
-  stays_low g rows t b i' j' at w out out' r (inl (a, e, q, o)) =
+      → AddSays p register g.last t out g.length (Some r) out' → InRows p n m (turned i' j' at r t)
+  stays_low g rows t b i' j' at w out out' r (inl (l, a, e, q, o)) =
       record { pages = w.in_pages; words = w.in_words; begins = w.begins; low = omega (arith, rows.low, w.count) }
   stays_low g rows t b i' j' at w out out' r (inr (x, put)) =
       record {
@@ -259,7 +262,7 @@ module _ {s p labels marks : List ℕ} {n : ℕ} {raws : List RawPage} (f : Labe
   passed_over : (old : List ℕ) (g : Progress) (out : List ℕ) → KeptSoFar raws p marks n register rootEnd chains words m old g out
       → g.i < n → (get_or marks g.i 0 ≡ 1 → ⊥) → (at : ℕ)
       → KeptSoFar raws p marks n register rootEnd chains words m old
-      (record { i = g.i + 1; j = g.j; place = at; length = g.length; any = g.any; last = g.last; shared = false }) out
+      (record { i = g.i + 1; j = g.j; place = at; length = g.length; last = g.last }) out
   passed_over old g out u h mark at =
       record {
         written = u.written;
@@ -267,8 +270,8 @@ module _ {s p labels marks : List ℕ} {n : ℕ} {raws : List RawPage} (f : Labe
         no_other = λ c x. widen g.i g.j (g.i + 1) g.j (omega arith) (omega arith) c (u.no_other c x);
         all = λ c x. kept_before c (page_more g.i g.j c x);
         none = u.none;
-        last = λ a.
-            let v = u.last a in
+        last = λ l a.
+            let v = u.last l a in
             record {
               bytes = v.bytes;
               stands = v.stands;
@@ -292,7 +295,7 @@ module _ {s p labels marks : List ℕ} {n : ℕ} {root register : List ℕ} {roo
     (k : ToKeep s p labels marks n root register rootEnd chains words m) (g : Progress) (rows : InRows p n m g) (out : List ℕ) where
   pub step_passes : PassedOver marks n g.i true → (at : ℕ) → PastPage p g.place at
       → StepSays s p labels marks n register rootEnd chains words m g out
-      (record { i = g.i + 1; j = g.j; place = at; length = g.length; any = g.any; last = g.last; shared = false }) out false
+      (Some (record { i = g.i + 1; j = g.j; place = at; length = g.length; last = g.last })) out
   step_passes (h, mark) at past = (
     record { pages = omega arith; words = rows.words; begins = following_begins k.filed.1 h rows.begins past; low = omega (arith, rows.low) },
     omega arith,
@@ -305,11 +308,11 @@ module _ {s p labels marks : List ℕ} {n : ℕ} {root register : List ℕ} {roo
     abbrev Next : Bool → Type 0
     Next b = (raws : List RawPage) → LabelledPages s p labels n raws → NextIs raws n p register rootEnd chains words m g.i g.j t b
 
-    goes_on_by : (b : Bool) → t.saved ≡ b → Next b → (r : ℕ) → AddSays p register g.any g.last t out g.length (Some r) out'
+    goes_on_by : (b : Bool) → t.saved ≡ b → Next b → (r : ℕ) → AddSays p register g.last t out g.length (Some r) out'
         → (g' : Progress) → g' ≡ progress_after g.i g.j g.place t r b
-        → StepSays s p labels marks n register rootEnd chains words m g out g' out' g'.shared
+        → StepSays s p labels marks n register rootEnd chains words m g out (Some g') out'
     goes_on_by true e x r a g' q =
-        subst (λ (y : Progress). StepSays s p labels marks n register rootEnd chains words m g out y out' y.shared) (sym q) (
+        subst (λ (y : Progress). StepSays s p labels marks n register rootEnd chains words m g out (Some y) out') (sym q) (
           (let f = k.filed.1 in
               stays_low f k g rows t _ _ _ _
               (word_turn f k g.i g.j t rows.pages rows.words e g.place rows.begins (x _ f)) out out' r a),
@@ -318,7 +321,7 @@ module _ {s p labels marks : List ℕ} {n : ℕ} {root register : List ℕ} {roo
               (word_turn f k g.i g.j t rows.pages rows.words e g.place rows.begins (x raws f)) out' r same a,
         )
     goes_on_by false e x r a g' q =
-        subst (λ (y : Progress). StepSays s p labels marks n register rootEnd chains words m g out y out' y.shared) (sym q) (
+        subst (λ (y : Progress). StepSays s p labels marks n register rootEnd chains words m g out (Some y) out') (sym q) (
           (let f = k.filed.1 in
               stays_low f k g rows t _ _ _ _
               (page_turn f k g.i g.j t rows.pages rows.words e kept (x _ f)) out out' r a),
@@ -327,13 +330,13 @@ module _ {s p labels marks : List ℕ} {n : ℕ} {root register : List ℕ} {roo
               (page_turn f k g.i g.j t rows.pages rows.words e kept (x raws f)) out' r same a,
         )
 
-    pub step_goes_on : (a : Option ℕ) → AddSays p register g.any g.last t out g.length a out' → (r : ℕ) → a ≡ Some r
+    pub step_goes_on : (a : Option ℕ) → AddSays p register g.last t out g.length a out' → (r : ℕ) → a ≡ Some r
         → (g' : Progress) → g' ≡ progress_after g.i g.j g.place t r t.saved
-        → StepSays s p labels marks n register rootEnd chains words m g out g' out' g'.shared
+        → StepSays s p labels marks n register rootEnd chains words m g out (Some g') out'
     step_goes_on a says r e =
-        goes_on_by t.saved refl next r (subst (λ (x : Option ℕ). AddSays p register g.any g.last t out g.length x out') e says)
+        goes_on_by t.saved refl next r (subst (λ (x : Option ℕ). AddSays p register g.last t out g.length x out') e says)
 
-    shares_by : (b : Bool) → t.saved ≡ b → Next b → AddSays p register g.any g.last t out g.length None out'
+    shares_by : (b : Bool) → t.saved ≡ b → Next b → AddSays p register g.last t out g.length None out'
         → (raws : List RawPage) (old : List ℕ) → LabelledPages s p labels n raws → KeptSoFar raws p marks n register rootEnd chains words m old g out
         → DigestShared raws marks n register rootEnd chains words m
     shares_by true e x a raws old f u =
@@ -343,11 +346,10 @@ module _ {s p labels marks : List ℕ} {n : ℕ} {root register : List ℕ} {roo
         unequal_share f k old g out u t _ _ _ _
         (page_turn f k g.i g.j t rows.pages rows.words e kept (x raws f)) out' a
 
-    pub step_shares : (a : Option ℕ) → AddSays p register g.any g.last t out g.length a out' → a ≡ None
-        → (raws : List RawPage) (old : List ℕ) → LabelledPages s p labels n raws → KeptSoFar raws p marks n register rootEnd chains words m old g out
-        → DigestShared raws marks n register rootEnd chains words m
+    pub step_shares : (a : Option ℕ) → AddSays p register g.last t out g.length a out' → a ≡ None
+        → StepSays s p labels marks n register rootEnd chains words m g out None out'
     step_shares a says e =
-        shares_by t.saved refl next (subst (λ (x : Option ℕ). AddSays p register g.any g.last t out g.length x out') e says)
+        shares_by t.saved refl next (subst (λ (x : Option ℕ). AddSays p register g.last t out g.length x out') e says)
 
     places_by : (b : Bool) → t.saved ≡ b → Next b → InString (string_of p register t) t
     places_by true e x = subst (λ (y : List ℕ). InString y t) (sym (in_register p register t e)) (x _ k.filed.1).1.places

@@ -1,9 +1,8 @@
 -- What is written at the start and at the end of the rows.
 use Rattle.keeping.specs.declared.Unkept.TheVariants.{Short, Shared}
-use Rattle.std.specs.Prelude.{Ok, Err}
+use Rattle.std.specs.Prelude.{Ok, Err, None}
 use Prim.Native.Nat.{ℕ, ◌+◌, ◌≤◌, ◌<◌}
 use mathlib.Core.Path.{◌≡◌, refl, subst}
-use mathlib.Core.Bool.{true, false, false≢true}
 use mathlib.Core.Logic.{inl, inr}
 use mathlib.Core.List.{List, [], ◌++◌}
 use native.Mathlib.Omega.{arith}
@@ -15,24 +14,23 @@ use Rattle.promises.specs.Promises.{Among}
 use Rattle.promises.proofs.DifferenceLaws.{among_left, among_right}
 use Rattle.states.proofs.Filing.{among-split}
 use Rattle.staging.specs.Pages.{PageWords}
-use Rattle.keeping.specs.declared.PagePart.{PagePart}
 use Rattle.keeping.specs.declared.Progress.{Progress}
 use Rattle.keeping.specs.Kept.{LabelledPages, kept_from, sequence_of, SequenceWritten}
 use Rattle.keeping.specs.Inner.{TakenFrom, KeptSoFar, DigestShared}
+use Rattle.std.proofs.lemmas.Option.{none-some}
 use Rattle.keeping.proofs.Members.{shares, members_apart, members_sequence, kept_among, among_kept}
 
 pub nothing_written : (raws : List RawPage) (p marks : List ℕ) (n : ℕ) (register : List ℕ) (rootEnd : ℕ) (chains words : List ℕ) (m : ℕ) (out : List ℕ)
-    (t : PagePart) → KeptSoFar raws p marks n register rootEnd chains words m out
-    (record { i = 0; j = 0; place = 0; length = 0; any = false; last = t; shared = false }) out
+    → KeptSoFar raws p marks n register rootEnd chains words m out (record { i = 0; j = 0; place = 0; length = 0; last = None }) out
 unfolding rising
-nothing_written raws p marks n register rootEnd chains words m out t =
+nothing_written raws p marks n register rootEnd chains words m out =
     record {
       written = [];
       rise = refl;
       no_other = λ c x. absurd x;
       all = none_taken;
       none = λ _. refl;
-      last = λ e. absurd (false≢true e);
+      last = λ t e. absurd (none-some t e);
       size = refl;
       output = λ _. refl;
     }

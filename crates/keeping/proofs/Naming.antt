@@ -1,6 +1,8 @@
 -- The digests that words name, and the pages of words.
+use Rattle.std.specs.declared.cmp.Ordering.{Ordering}
+use Rattle.std.specs.Ordering.{is_lt}
 use Prim.Native.Nat.{ℕ, ◌+◌, ◌-◌, ◌≤◌, ◌<◌}
-use mathlib.Core.Path.{◌≡◌, ◌∙◌}
+use mathlib.Core.Path.{◌≡◌, refl, ◌∙◌}
 use mathlib.Core.Bool.{true}
 use mathlib.Core.List.{List, []}
 use native.Mathlib.Omega.{arith}
@@ -8,6 +10,7 @@ use lib.ListN.{length}
 use borrow.Author.Tests.{lt-ltb, le-ltb, ltb-true, ltb-false}
 use borrow.Table.Steps.{cases}
 use lib.Dec.{ltb}
+use Rattle.key.specs.Key.{less, order}
 use Rattle.limits.specs.Limits.{longest}
 use Rattle.value.specs.Value.{digest_in}
 use Rattle.known.specs.Rows.{label_place}
@@ -48,3 +51,12 @@ saved_stands {register = register} x short from to digest e f d =
       part = rw (e, f);
       digest = d ∙ x.digest;
     }
+
+-- ---- the order of two digests
+pub lt_is : (a b : List ℕ) (o : Ordering) → o ≡ order a b → is_lt o ≡ less a b
+unfolding order
+lt_is a b o e =
+    rw e
+    (cases (less a b)
+    (λ l. rw l refl)
+    (λ l. rw l (cases (less b a) (λ g. rw g refl) (λ g. rw g refl))))

@@ -55,13 +55,18 @@ pub record PutBehind (bytes out : List ℕ) (at : ℕ) (out' : List ℕ) (r : �
   pub end : r ≡ at + length bytes
   pub put : at + length bytes ≤ length out → out' ≡ front (take at out ++ bytes) out
 
+-- The last page, if there is one, where it has the digest of another.
+abbrev pub RepeatSays : Option PagePart → PagePart → Option PagePart → Type 0
+RepeatSays last t (Some l) = (last ≡ Some l) × (t.digest ≡ l.digest)
+RepeatSays last t None = (l : PagePart) → last ≡ Some l → t.digest ≡ l.digest → ⊥
+
 -- Where the last page written has the same digest, it must be the same page, and nothing is written; any other page is.
-abbrev pub AddSays : List ℕ → List ℕ → Bool → PagePart → PagePart → List ℕ → ℕ → Option ℕ → List ℕ → Type 0
-AddSays p register any last t out at (Some r) out' =
-    ((any ≡ true) × (part_of (string_of p register t) t ≡ part_of (string_of p register last) last) × (r ≡ at) × (out' ≡ out))
-    ⊎ ((any ≡ true → t.digest ≡ last.digest → ⊥) × PutBehind (part_of (string_of p register t) t) out at out' r)
-AddSays p register any last t out at None out' =
-    (any ≡ true) × (t.digest ≡ last.digest) × (part_of (string_of p register t) t ≡ part_of (string_of p register last) last → ⊥)
+abbrev pub AddSays : List ℕ → List ℕ → Option PagePart → PagePart → List ℕ → ℕ → Option ℕ → List ℕ → Type 0
+AddSays p register last t out at (Some r) out' =
+    ((l : PagePart) × (last ≡ Some l) × (part_of (string_of p register t) t ≡ part_of (string_of p register l) l) × (r ≡ at) × (out' ≡ out))
+    ⊎ (((l : PagePart) → last ≡ Some l → t.digest ≡ l.digest → ⊥) × PutBehind (part_of (string_of p register t) t) out at out' r)
+AddSays p register last t out at None out' =
+    (l : PagePart) × (last ≡ Some l) × (t.digest ≡ l.digest) × (part_of (string_of p register t) t ≡ part_of (string_of p register l) l → ⊥)
 
 -- ---- the two rows
 -- A page is one of the first i pages, and kept, or that of one of the first j words.
@@ -81,9 +86,9 @@ NextIs raws n p register rootEnd chains words m i j t false =
 
 -- The last page written: it is one of them, and none of them has a greater digest, and none that is ahead a lesser.
 pub record LastWritten (raws : List RawPage) (n : ℕ) (p register : List ℕ) (rootEnd : ℕ) (chains words : List ℕ) (m : ℕ)
-    (written : List (List ℕ)) (g : Progress) : Type 0 where
+    (written : List (List ℕ)) (g : Progress) (t : PagePart) : Type 0 where
   pub bytes : List ℕ
-  pub stands : PartStands (string_of p register g.last) g.last bytes
+  pub stands : PartStands (string_of p register t) t bytes
   pub there : Among bytes written
   pub greatest : (b : List ℕ) → Among b written → less (sha256 bytes) (sha256 b) ≡ false
   pub page_ahead : g.i < n → less (sha256 (bytes_at raws g.i)) (sha256 bytes) ≡ false
@@ -96,8 +101,8 @@ pub record KeptSoFar (raws : List RawPage) (p marks : List ℕ) (n : ℕ) (regis
   pub rise : rising (map by_digest written) ≡ true
   pub no_other : (b : List ℕ) → Among b written → TakenFrom raws marks register rootEnd chains words g.i g.j b
   pub all : (b : List ℕ) → TakenFrom raws marks register rootEnd chains words g.i g.j b → Among b written
-  pub none : g.any ≡ false → written ≡ []
-  pub last : g.any ≡ true → LastWritten raws n p register rootEnd chains words m written g
+  pub none : g.last ≡ None → written ≡ []
+  pub last : (t : PagePart) → g.last ≡ Some t → LastWritten raws n p register rootEnd chains words m written g t
   pub size : g.length ≡ length (concat (λ b. b) written)
   pub output : length (concat (λ b. b) written) ≤ length out → out' ≡ front (concat (λ b. b) written) out
 
@@ -120,8 +125,8 @@ pub record DigestShared (raws : List RawPage) (marks : List ℕ) (n : ℕ) (regi
 -- ---- one turn
 -- The row that the page was taken from goes on.
 abbrev pub progress_after : ℕ → ℕ → ℕ → PagePart → ℕ → Bool → Progress
-progress_after i j at t length true = record { i = i; j = j + 1; place = at; length = length; any = true; last = t; shared = false }
-progress_after i j at t length false = record { i = i + 1; j = j; place = t.to; length = length; any = true; last = t; shared = false }
+progress_after i j at t length true = record { i = i; j = j + 1; place = at; length = length; last = Some t }
+progress_after i j at t length false = record { i = i + 1; j = j; place = t.to; length = length; last = Some t }
 
 -- Whether the i-th page is there and not kept.
 abbrev pub PassedOver : List ℕ → ℕ → ℕ → Bool → Type 0
@@ -129,11 +134,11 @@ PassedOver marks n i true = (i < n) × (get_or marks i 0 ≡ 1 → ⊥)
 PassedOver marks n i false = i < n → get_or marks i 0 ≡ 1
 
 -- The rows go on by one page, and what was written so far goes on with it; or two unequal pages share a digest.
-abbrev pub StepSays : List ℕ → List ℕ → List ℕ → List ℕ → ℕ → List ℕ → ℕ → List ℕ → List ℕ → ℕ → Progress → List ℕ → Progress → List ℕ → Bool → Type 0
-StepSays s p labels marks n register rootEnd chains words m g out g' out' false =
+abbrev pub StepSays : List ℕ → List ℕ → List ℕ → List ℕ → ℕ → List ℕ → ℕ → List ℕ → List ℕ → ℕ → Progress → List ℕ → Option Progress → List ℕ → Type 0
+StepSays s p labels marks n register rootEnd chains words m g out (Some g') out' =
     InRows p n m g' × (g'.i + g'.j ≡ g.i + g.j + 1)
     × ((raws : List RawPage) (old : List ℕ) → LabelledPages s p labels n raws → length out ≡ length old
     → KeptSoFar raws p marks n register rootEnd chains words m old g out → KeptSoFar raws p marks n register rootEnd chains words m old g' out')
-StepSays s p labels marks n register rootEnd chains words m g out g' out' true =
+StepSays s p labels marks n register rootEnd chains words m g out None out' =
     (raws : List RawPage) (old : List ℕ) → LabelledPages s p labels n raws → KeptSoFar raws p marks n register rootEnd chains words m old g out
     → DigestShared raws marks n register rootEnd chains words m

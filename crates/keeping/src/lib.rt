@@ -2,8 +2,7 @@
 // above and no public calls.
 #![tactic(auto)]
 
-ghost use Rattle.std.specs.Prelude.{◌≡◌, true, false, ◌&&◌, List, [], ◌++◌, ℕ, ◌+◌, ◌^◌, ◌≤◌, ◌<◌, length};
-ghost use Rattle.bytestring.specs.Bytes.{equal};
+ghost use Rattle.std.specs.Prelude.{◌≡◌, true, false, IfSome, List, [], ◌++◌, ℕ, ◌+◌, ◌^◌, ◌≤◌, ◌<◌, length};
 ghost use Rattle.limits.specs.Limits.{longest};
 ghost use Rattle.key.specs.Key.{less};
 ghost use Rattle.page.specs.Page.{RawPage};
@@ -11,21 +10,15 @@ ghost use Rattle.links.specs.Links.{from_first, digest_named, Names};
 ghost use Rattle.filing.specs.Filed.{bytes_at, link_named};
 ghost use Rattle.staging.specs.Pages.{page_named, PageWord, PageWords};
 ghost use Rattle.keeping.specs.Kept.{LabelledPages, kept_from, ToKeep, SequenceWritten};
-ghost use Rattle.keeping.specs.Inner.{string_of, part_of, InString, PartStands, PastPage, PageBegins, PutBehind, AddSays, NextIs, InRows, progress_after, PassedOver, StepSays};
+ghost use Rattle.keeping.specs.Inner.{string_of, part_of, InString, PartStands, PastPage, PageBegins, PutBehind, RepeatSays, AddSays, NextIs, InRows, progress_after, PassedOver, StepSays};
 
 use bytestring::{same_bytes, write_bytes};
 use key_order::compare;
 use known::label_place;
+use links::{FROM_CHAINS, FROM_FIRST};
 use page_reader::read_page;
 use staging::{page_end, page_start};
-use std::cmp::Ordering;
-use value::{DIGEST, Digest, digest_at};
-
-// The words from here on name digests in the first of two strings.
-const FROM_FIRST: u32 = 0x100_0000;
-
-// The words from here on name labels of chains.
-const FROM_CHAINS: u32 = 0x200_0000;
+use value::{Digest, digest_at};
 
 // Why no sequence is kept: the output is too short for it, or two unequal pages share a digest.
 #[derive(Clone, Copy)]
@@ -43,17 +36,15 @@ struct PagePart {
     digest: Digest,
 }
 
-// How far the two rows are written: the numbers of the next in each, where the i-th filed page begins, the length of the sequence so far,
-// whether there is a last page, and that page; and whether two unequal pages share a digest.
+// How far the two rows are written: the numbers of the next in each, where the i-th filed page begins, the length of the sequence so far, and
+// the last page, if there is one.
 #[derive(Clone, Copy)]
 struct Progress {
     i: usize,
     j: usize,
     place: usize,
     length: usize,
-    any: bool,
-    last: PagePart,
-    shared: bool,
+    last: Option<PagePart>,
 }
 
 // The digest that the label of a filed page names.
@@ -97,21 +88,17 @@ fn word_leads(
 {
     let digest = word_digest(root, register, chains, word);
     let other = label_digest(states, sequence, label);
-    match compare(&digest, &other) {
-        Ordering::Less => true,
-        Ordering::Equal => false,
-        Ordering::Greater => false,
-    }
+    compare(&digest, &other).is_lt()
 }
 
 // Where the page at a place ends.
 fn past_page(sequence: &[u8], from: usize) -> usize
     ensures { PastPage sequence.now from result }
 {
-    match read_page(sequence, from) {
-        Ok(page) => page.end,
-        Err(_) => from,
-    }
+    let Ok(page) = read_page(sequence, from) else {
+        return from;
+    };
+    page.end
 }
 
 // The i-th filed page, which begins at a place.
@@ -192,55 +179,28 @@ fn put_bytes(bytes: &[u8], out: &mut [u8], at: usize) -> usize
     end
 }
 
-// A page there.
-fn put_part(sequence: &[u8], register: &[u8], part: PagePart, out: &mut [u8], at: usize) -> usize
-    requires { InString (string_of sequence.now register.now part) part × (at ≤ 2 ^ 62) }
-    ensures { PutBehind (part_of (string_of sequence.now register.now part) part) out.old at out.new result }
-{
-    let from = part.from;
-    let to = part.to;
-    if part.saved {
-        return put_bytes(&register[from..to], out, at);
-    }
-    put_bytes(&sequence[from..to], out, at)
-}
-
-// Whether a page has these bytes.
-fn has_bytes(sequence: &[u8], register: &[u8], part: PagePart, bytes: &[u8]) -> bool
+// The bytes of a page.
+fn bytes_of_part<'a>(sequence: &'a [u8], register: &'a [u8], part: PagePart) -> &'a [u8]
     requires { InString (string_of sequence.now register.now part) part }
-    ensures { result ≡ equal (part_of (string_of sequence.now register.now part) part) bytes.now }
+    ensures { result.now ≡ part_of (string_of sequence.now register.now part) part }
 {
     let from = part.from;
     let to = part.to;
     if part.saved {
-        return same_bytes(&register[from..to], bytes);
+        return &register[from..to];
     }
-    same_bytes(&sequence[from..to], bytes)
+    &sequence[from..to]
 }
 
-// Whether two pages are equal.
-fn same_part(sequence: &[u8], register: &[u8], part: PagePart, other: PagePart) -> bool
-    requires { InString (string_of sequence.now register.now part) part × InString (string_of sequence.now register.now other) other }
-    ensures { result ≡ equal (part_of (string_of sequence.now register.now part) part) (part_of (string_of sequence.now register.now other) other) }
+// The last page, if there is one and its digest is that of another page.
+fn repeated(last: Option<PagePart>, part: PagePart) -> Option<PagePart>
+    ensures { RepeatSays last part result }
 {
-    let from = other.from;
-    let to = other.to;
-    if other.saved {
-        return has_bytes(sequence, register, part, &register[from..to]);
+    let other = last?;
+    if part.digest == other.digest {
+        return Some(other);
     }
-    has_bytes(sequence, register, part, &sequence[from..to])
-}
-
-// Whether there is a last page and its digest is that of another.
-fn repeats(any: bool, last: PagePart, part: PagePart) -> bool
-    ensures { result ≡ (any && equal part.digest last.digest) }
-{
-    if any {
-        let digest = part.digest;
-        let other = last.digest;
-        return same_bytes(&digest, &other);
-    }
-    false
+    None
 }
 
 // A page behind those written so far, whose length is given. Where the last of them has the same digest, it must be the same page, and is not
@@ -248,23 +208,23 @@ fn repeats(any: bool, last: PagePart, part: PagePart) -> bool
 fn add_part(
     sequence: &[u8],
     register: &[u8],
-    any: bool,
-    last: PagePart,
+    last: Option<PagePart>,
     part: PagePart,
     out: &mut [u8],
     at: usize,
 ) -> Option<usize>
     requires in_string { InString (string_of sequence.now register.now part) part × (at ≤ 2 ^ 62) }
-    requires in_string_2 { any ≡ true → InString (string_of sequence.now register.now last) last }
-    ensures { AddSays sequence.now register.now any last part out.old at result out.new }
+    requires last_in_string { IfSome last (λ l. InString (string_of sequence.now register.now l) l) }
+    ensures { AddSays sequence.now register.now last part out.old at result out.new }
 {
-    if repeats(any, last, part) {
-        if same_part(sequence, register, part, last) {
-            return Some(at);
-        }
-        return None;
+    let bytes = bytes_of_part(sequence, register, part);
+    let Some(other) = repeated(last, part) else {
+        return Some(put_bytes(bytes, out, at));
+    };
+    if same_bytes(bytes, bytes_of_part(sequence, register, other)) {
+        return Some(at);
     }
-    Some(put_part(sequence, register, part, out, at))
+    None
 }
 
 // After a page the rows go on behind it.
@@ -272,15 +232,14 @@ fn go_on(i: usize, j: usize, place: usize, part: PagePart, length: usize) -> Pro
     requires { (i ≤ 2 ^ 24) × (j ≤ 2 ^ 24) }
     ensures { result ≡ progress_after i j place part length part.saved }
 {
+    let last = Some(part);
     if part.saved {
         return Progress {
             i,
             j: j + 1,
             place,
             length,
-            any: true,
-            last: part,
-            shared: false,
+            last,
         };
     }
     Progress {
@@ -288,9 +247,7 @@ fn go_on(i: usize, j: usize, place: usize, part: PagePart, length: usize) -> Pro
         j,
         place: part.to,
         length,
-        any: true,
-        last: part,
-        shared: false,
+        last,
     }
 }
 
@@ -299,16 +256,11 @@ fn is_passed_over(marks: &[u8], n: usize, i: usize) -> bool
     requires { n ≤ length marks.now }
     ensures { PassedOver marks.now n i result }
 {
-    if n <= i {
-        return false;
-    }
-    if marks[i] == 1 {
-        return false;
-    }
-    true
+    i < n && marks[i] != 1
 }
 
-// One page of the rows: a filed page that is not kept is passed over, and the next page is written.
+// One page of the rows: a filed page that is not kept is passed over, and the next page is written. None where two unequal pages share a
+// digest.
 fn step(
     states: &[u8],
     sequence: &[u8],
@@ -323,10 +275,10 @@ fn step(
     m: usize,
     progress: Progress,
     out: &mut [u8],
-) -> Progress
+) -> Option<Progress>
     requires to_keep { ToKeep states.now sequence.now labels.now marks.now n root.now register.now root_end chains.now words.now m × InRows sequence.now n m progress × (progress.i + progress.j < n + m) }
-    requires in_string { progress.any ≡ true → InString (string_of sequence.now register.now progress.last) progress.last }
-    ensures { StepSays states.now sequence.now labels.now marks.now n register.now root_end chains.now words.now m progress out.old result out.new result.shared }
+    requires last_in_string { IfSome progress.last (λ l. InString (string_of sequence.now register.now l) l) }
+    ensures { StepSays states.now sequence.now labels.now marks.now n register.now root_end chains.now words.now m progress out.old result out.new }
 {
     let i = progress.i;
     let j = progress.j;
@@ -334,31 +286,19 @@ fn step(
     let last = progress.last;
     let length = progress.length;
     if is_passed_over(marks, n, i) {
-        return Progress {
+        return Some(Progress {
             i: i + 1,
             j,
             place: past_page(sequence, place),
             length,
-            any: progress.any,
             last,
-            shared: false,
-        };
+        });
     }
     let part = next_part(
         states, sequence, labels, n, root, register, root_end, chains, words, m, i, j, place,
     );
-    match add_part(sequence, register, progress.any, last, part, out, length) {
-        Some(end) => go_on(i, j, place, part, end),
-        None => Progress {
-            i,
-            j,
-            place,
-            length,
-            any: progress.any,
-            last,
-            shared: true,
-        },
-    }
+    let end = add_part(sequence, register, last, part, out, length)?;
+    Some(go_on(i, j, place, part, end))
 }
 
 // The sequence of the kept pages and of the register's pages, at the front of the output. Each page is written where it fits, and counted in
@@ -386,25 +326,16 @@ pub fn write_kept(
         j: 0,
         place: 0,
         length: 0,
-        any: false,
-        last: PagePart {
-            saved: false,
-            from: 0,
-            to: 0,
-            digest: [0u8; DIGEST],
-        },
-        shared: false,
+        last: None,
     };
-    let mut turn = 0;
-    while turn < total {
-        progress = step(
+    for turn in 0..total {
+        let Some(next) = step(
             states, sequence, labels, marks, n, root, register, root_end, chains, words, m,
             progress, out,
-        );
-        if progress.shared {
+        ) else {
             return Err(Unkept::Shared);
-        }
-        turn += 1;
+        };
+        progress = next;
     }
     if out.len() < progress.length {
         return Err(Unkept::Short);

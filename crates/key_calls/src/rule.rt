@@ -98,6 +98,7 @@ pub(crate) fn slash_or_end(key: &[u8]) -> usize
     let n = key.len();
     let mut at = n;
     let mut i = skip_ordinary(key, 0, 16);
+    // The position moves by eights behind the slash.
     while i < n {
         let b = key[i];
         if is_ordinary(b) {

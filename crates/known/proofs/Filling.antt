@@ -1,6 +1,6 @@
 -- The table is cleared and filled with the labels of chains, and a digest is looked for in it.
 use Prim.Native.Nat.{ℕ, zero, suc, ◌+◌, ◌-◌, ◌*◌, ◌^◌, ◌≤◌, ◌<◌}
-use mathlib.Core.Path.{◌≡◌, refl, sym, ap, ◌∙◌}
+use mathlib.Core.Path.{◌≡◌, refl, sym, ap, subst, ◌∙◌}
 use mathlib.Core.Bool.{Bool, true, false}
 use mathlib.Core.List.{List, [], ◌∷◌, ◌++◌, append_assoc, append-nil}
 use native.Mathlib.Omega.{arith}
@@ -84,8 +84,9 @@ module _ (s row : List ℕ) (n start : ℕ) (heads words : List ℕ) (count i : 
     digests = so_far;
   }
 
-  pub filled_all : i ≤ n → n ≤ i → Filled s row n start heads words i
-  filled_all h k = record { ahead = ahead; most = h; onward = λ z. omega arith; count = count; linked = l; digests = so_far }
+  pub filled_all : i ≡ n → Filled s row n start heads words n
+  filled_all e =
+      subst (Filled s row n start heads words) e (record { ahead = ahead; most = omega arith; onward = λ z. omega arith; count = count; linked = l; digests = so_far })
 
 -- ---- a digest
 module _ (s heads words root digest : List ℕ) (size : length root ≡ 32) (a : Bool) (ea : a ≡ equal (take 32 (drop 0 root)) digest) where

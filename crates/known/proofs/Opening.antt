@@ -25,9 +25,9 @@ module _ (s heads words root u : List ℕ) (w most : ℕ) where
   none_tried labels x count l = omega arith
 
   module _ (fits : most ≤ label_count w) (k : ℕ) (so_far : OpenSoFar k) where
-    pub open_all : most ≤ k → k ≤ most → OpenLabels s heads words root u w most k
+    pub open_all : k ≡ most → OpenLabels s heads words root u w most most
     unfolding labels_before
-    open_all h g labels x count l =
+    open_all h labels x count l =
         let n = length-take-le most labels (omega (arith, x.count)) in
         let e : drop k (take most labels) ≡ [] = drop_of_length-le (take most labels) {i = k} (omega (arith, n)) in
         let z : labels_before (digests count) (drop k (take most labels)) ≡ 0 = rw e in

@@ -17,7 +17,7 @@ fn first_bits(digest: &[u8]) -> usize
     requires { length digest.now ≡ digest_length }
     ensures { (result ≡ first_bits digest.now) × (result < 4096) }
 {
-    digest[0] as usize * 16 + digest[1] as usize / 16
+    usize::from(digest[0]) * 16 + usize::from(digest[1]) / 16
 }
 
 // One link more, by the place of its digest; place 0 is no link. The new count.
@@ -62,23 +62,10 @@ fn add_chain(s: &[u8], word: u64, heads: &mut [u32], words: &mut [u64], count: u
 {
     let n = label_count(word);
     let mut total = count;
-    let mut k = 0;
-    while k < n {
+    for k in 0..n {
         total = add_link(s, label_place(word, k), heads, words, total);
-        k += 1;
     }
     total
-}
-
-// An empty table has no heads.
-fn clear_heads(heads: &mut [u32])
-    ensures { heads.new ≡ zeros (length heads.old) }
-{
-    let mut i = 0;
-    while i < heads.len() {
-        heads[i] = 0;
-        i += 1;
-    }
 }
 
 // The labels of the chains from the start-th on into an empty table, as many whole chains as there is room for. The first that is left.
@@ -93,18 +80,16 @@ pub fn fill(
     requires { SomeChains s.now known.now n × (start ≤ n) × (length heads.old ≡ 4096) × (length words.old ≡ 4096) × (length s.now < 2 ^ 32) }
     ensures { Filled s.now known.now n start heads.new words.new result }
 {
-    clear_heads(heads);
+    heads.fill(0);
     let mut count = 0;
-    let mut i = start;
-    while i < n {
+    for i in start..n {
         let word = known[2 * i];
         if words.len() - count < label_count(word) {
             return i;
         }
         count = add_chain(s, word, heads, words, count);
-        i += 1;
     }
-    i
+    n
 }
 
 // Whether a digest is among the links in the table.
@@ -113,6 +98,7 @@ fn in_table(s: &[u8], heads: &[u32], words: &[u64], digest: &[u8]) -> bool
     ensures { InTable s.now heads.now words.now digest.now result }
 {
     let mut n = heads[first_bits(digest)] as usize;
+    // Each link of a bucket names the one before it.
     while n != 0 {
         let word = words[n - 1];
         if same_digest(s, place_in(word), digest) {
@@ -147,13 +133,11 @@ pub fn open_labels(
     requires { Tabled s.now heads.now words.now × (length root.now ≡ digest_length) × SomeLabels u.now word × (most ≤ label_count word) }
     ensures { (result ≤ most) × OpenLabels s.now heads.now words.now root.now u.now word most result }
 {
-    let mut k = 0;
-    while k < most {
+    for k in 0..most {
         let at = label_place(word, k);
         if is_known(s, heads, words, root, &u[at..at + DIGEST]) {
             return k;
         }
-        k += 1;
     }
-    k
+    most
 }

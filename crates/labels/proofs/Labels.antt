@@ -1,6 +1,7 @@
 -- The digest that stands in a register for a page of it.
+use Rattle.std.specs.Prelude.{Option, Some}
 use Prim.Native.Nat.{ℕ, ◌+◌, ◌-◌, ◌*◌, ◌/◌, ◌<◌}
-use mathlib.Core.Path.{◌≡◌, sym, ap, ◌∙◌}
+use mathlib.Core.Path.{◌≡◌, sym, ap, subst, ◌∙◌}
 use mathlib.Core.Bool.{Bool, false, not}
 use mathlib.Core.List.{List}
 use native.Mathlib.Omega.{arith}
@@ -12,7 +13,7 @@ use Rattle.bytestring.proofs.Equal.{equal_true}
 use Rattle.bytestring.specs.Bytes.{equal}
 use Rattle.fips180.specs.Hash.{sha256}
 use Rattle.index.specs.Chain.{last_label, PageLabelled, Labelled}
-use Rattle.labels.specs.Label.{EachLabelled, DigestAt}
+use Rattle.labels.specs.Label.{EachLabelled, ChainFound, DigestStands, DigestFound}
 
 -- ---- the place of a label
 module _ (w above : ℕ) (a : above ≡ above_in w) where
@@ -35,14 +36,17 @@ each_labelled {s} {chains} {count} l =
     })
 
 -- ---- the digest of the bytes of a page
-pub no_label : (s bytes : List ℕ) → DigestAt s bytes 0
-no_label s bytes = record { fits = λ h. absurd (omega arith); digest = λ h. absurd (omega arith) }
+pub chain_is : (chains : List ℕ) (page : ℕ) (got : Option ℕ) → ChainFound chains page got → (i : ℕ) → got ≡ Some i → i < length chains / 2
+chain_is chains page got w i e = (subst (ChainFound chains page) e w).0
+
+pub digest_is : (s bytes : List ℕ) (got : Option ℕ) → DigestFound s bytes got → (place : ℕ) → got ≡ Some place → DigestStands s bytes place
+digest_is s bytes got w place e = subst (DigestFound s bytes) e w
 
 pub label_stands : (s bytes : List ℕ) (w v from to link label : ℕ) (same : Bool) → PageLabelled s w v
     → link ≡ link_in w → (link ≡ 0 → ⊥) → from ≡ page_in w → to ≡ end_in v
-    → same ≡ equal (take (to - from) (drop from s)) bytes → not same ≡ false → label ≡ last_label w → DigestAt s bytes label
+    → same ≡ equal (take (to - from) (drop from s)) bytes → not same ≡ false → label ≡ last_label w → DigestStands s bytes label
 label_stands s bytes w v from to link label same p el some ef et es same-there e =
     let h : 0 < link_in w = omega arith in
     let q : take (end_in v - page_in w) (drop (page_in w) s) ≡ bytes =
     equal_true _ bytes (rw (← ef, ← et) (sym es ∙ not-false same same-there)) in
-    record { fits = λ _. rw e (p.fits h); digest = λ _. rw e (p.digest h ∙ ap sha256 q) }
+    record { fits = rw e (p.fits h); digest = rw e (p.digest h ∙ ap sha256 q) }

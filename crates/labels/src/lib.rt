@@ -1,11 +1,10 @@
 // The digest of a page that was written. Where the page stands in a lent register, the link that leads to it there has the digest.
 #![tactic(auto)]
 
-ghost use Rattle.std.specs.Prelude.{◌≡◌, ◌*◌, ◌/◌, ◌≤◌, ◌<◌, length, get_or};
-ghost use Rattle.word.specs.Word.{page_in};
+ghost use Rattle.std.specs.Prelude.{◌≡◌, ◌≤◌, length};
 ghost use Rattle.fips180.specs.Hash.{sha256};
 ghost use Rattle.index.specs.Chain.{last_label};
-ghost use Rattle.labels.specs.Label.{EachLabelled, DigestAt};
+ghost use Rattle.labels.specs.Label.{EachLabelled, ChainFound, DigestFound};
 
 use bytestring::same_bytes;
 use sha256::digest_of;
@@ -19,25 +18,21 @@ fn last_label(word: u64) -> usize
     if above_in(word) == 0 {
         return link_in(word);
     }
-    let page = page_in(word);
-    if page < DIGEST {
-        return 0;
-    }
-    page - DIGEST
+    page_in(word).saturating_sub(DIGEST)
 }
 
-// The chain whose page with entries stands at this place, by halves of the row; their number where none is found.
-fn find_chain(chains: &[u64], page: usize) -> usize
-    ensures { result < length chains.now / 2 → page_in (get_or chains.now (2 * result) 0) ≡ page }
+// The chain whose page with entries stands at this place, by halves of the row.
+fn find_chain(chains: &[u64], page: usize) -> Option<usize>
+    ensures { ChainFound chains.now page result }
 {
-    let count = chains.len() / 2;
     let mut low = 0;
-    let mut high = count;
+    let mut high = chains.len() / 2;
+    // The library's search goes over single words, and a chain has two.
     while low < high {
         let middle = low + (high - low) / 2;
         let here = page_in(chains[2 * middle]);
         if here == page {
-            return middle;
+            return Some(middle);
         }
         if here < page {
             low = middle + 1;
@@ -45,30 +40,26 @@ fn find_chain(chains: &[u64], page: usize) -> usize
             high = middle;
         }
     }
-    count
+    None
 }
 
-// Where in s the digest of these bytes stands, if they are those of the page with entries at this place; 0 if they are not, or no link leads
-// to that page.
-fn label_of(s: &[u8], chains: &[u64], page: usize, bytes: &[u8]) -> usize
+// Where in s the digest of these bytes stands, if they are those of the page with entries at this place and a link leads to that page.
+fn label_of(s: &[u8], chains: &[u64], page: usize, bytes: &[u8]) -> Option<usize>
     requires { EachLabelled s.now chains.now }
-    ensures { DigestAt s.now bytes.now result }
+    ensures { DigestFound s.now bytes.now result }
 {
-    let i = find_chain(chains, page);
-    if chains.len() / 2 <= i {
-        return 0;
-    }
+    let i = find_chain(chains, page)?;
     let word = chains[2 * i];
     if link_in(word) == 0 {
-        return 0;
+        return None;
     }
     let from = page_in(word);
     let to = end_in(chains[2 * i + 1]);
     let there = &s[from..to];
     if !same_bytes(there, bytes) {
-        return 0;
+        return None;
     }
-    last_label(word)
+    Some(last_label(word))
 }
 
 // The digest of these bytes: read in s if they are those of the page at this place, and computed otherwise.
@@ -76,11 +67,10 @@ fn digest_in(s: &[u8], chains: &[u64], page: usize, bytes: &[u8]) -> Digest
     requires { EachLabelled s.now chains.now }
     ensures { result ≡ sha256 bytes.now }
 {
-    let label = label_of(s, chains, page, bytes);
-    if label == 0 {
-        return digest_of(bytes);
+    match label_of(s, chains, page, bytes) {
+        Some(label) => digest_at(s, label),
+        None => digest_of(bytes),
     }
-    digest_at(s, label)
 }
 
 // The digest of a page that was written. Its first entry is the record at position `first`, and only that record's page in its own register

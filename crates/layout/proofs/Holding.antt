@@ -1,17 +1,18 @@
 -- The key before in a page, held in an array, and the entry of a record after it.
 use Prim.Native.Nat.{ℕ, suc, ◌+◌, ◌-◌, ◌≤◌}
 use mathlib.Core.Path.{◌≡◌, sym, ap, ◌∙◌}
-use mathlib.Core.Bool.{Bool, true, false, not, false≢true}
+use mathlib.Core.Bool.{Bool, true, false}
+use Rattle.std.specs.Prelude.{None, Some, is_some, Option as OptionOf}
 use mathlib.Core.List.{List}
 use native.Mathlib.Omega.{arith}
-use borrow.Author.Tests.{not-true, not-false, le-leb}
+use borrow.Author.Tests.{le-leb}
 use lib.Dec.{leb}
 use lib.ListN.{length, take, drop, length-take, length-append, length-drop}
 use lib.Seq.{take_at, length-take-le}
 use Rattle.bytestring.specs.Bytes.{front}
 use Rattle.key.specs.Key.{shared}
 use Rattle.page.specs.Page.{entry_bytes}
-use Rattle.page_writer.specs.Front.{link_if, entry_length, entry_after}
+use Rattle.page_writer.specs.Front.{link_held, entry_length, entry_after}
 use Rattle.page_writer.proofs.Sizes.{most_number}
 use Rattle.index.proofs.Standing.{value_within}
 use Rattle.row.specs.Row.{source_of, record_of_word, Stands}
@@ -73,27 +74,19 @@ module _ {s u keys notes previous : List ℕ} {held : ℕ} {w : ℕ} {keys' note
       }
 
   -- the entry is tried
-  module _ (linked : Bool) (link o : List ℕ) (fits : Bool) (ef : fits ≡ leb (entry_length (take held previous) recalled linked) (length o)) where
-    same_test : fits ≡ leb (entry_length (take held previous) (record_of_word s u w).key linked) (length o)
+  module _ (link : OptionOf (List ℕ)) (o : List ℕ) (fits : Bool) (ef : fits ≡ leb (entry_length (take held previous) recalled (is_some link)) (length o)) where
+    same_test : fits ≡ leb (entry_length (take held previous) (record_of_word s u w).key (is_some link)) (length o)
     same_test = ef ∙ rw c.key
 
-    pub entry_refused : not fits ≡ true → EntryTried s u w (take held previous) linked link o o keys' notes' previous (record { room = false; len = 0; held = 0 })
-    entry_refused e = record {
-      room = sym (not-true fits e) ∙ same_test;
-      wrote = λ x. absurd (false≢true x);
-      size = λ x. absurd (false≢true x);
-      next = λ x. absurd (false≢true x);
-      memory = c.remembers;
-    }
+    pub entry_refused : {previous' : List ℕ} → fits ≡ false → EntryTried s u w (take held previous) link o o keys' notes' previous' None
+    entry_refused e = record { room = sym e ∙ same_test; done = tt; memory = c.remembers }
 
-    pub entry_written : (value out previous' : List ℕ) (len : ℕ) → not fits ≡ false → value ≡ (record_of_word s u w).val
-        → out ≡ front (entry_bytes (entry_after (take held previous) recalled (link_if linked link) value)) o → len ≡ entry_length (take held previous) recalled linked
+    pub entry_written : (value out previous' : List ℕ) (len : ℕ) → fits ≡ true → value ≡ (record_of_word s u w).val
+        → out ≡ front (entry_bytes (entry_after (take held previous) recalled (link_held link) value)) o → len ≡ entry_length (take held previous) recalled (is_some link)
         → previous' ≡ front recalled previous
-        → EntryTried s u w (take held previous) linked link o out keys' notes' previous' (record { room = true; len = len; held = r.size })
+        → EntryTried s u w (take held previous) link o out keys' notes' previous' (Some (record { len = len; held = r.size }))
     entry_written value out previous' len e ev eo en ep = record {
-      room = sym (not-false fits e) ∙ same_test;
-      wrote = λ _. eo ∙ rw (c.key, ev);
-      size = λ _. en ∙ rw c.key;
-      next = λ _. key_held previous' ep;
+      room = sym e ∙ same_test;
+      done = record { wrote = eo ∙ rw (c.key, ev); size = en ∙ rw c.key; next = key_held previous' ep };
       memory = c.remembers;
     }

@@ -2,6 +2,7 @@
 use Prim.Native.Nat.{ℕ, zero, suc, ◌+◌, ◌-◌, ◌*◌, ◌≤◌, ◌<◌}
 use mathlib.Core.Path.{◌≡◌, refl, sym, ap, ◌∙◌}
 use mathlib.Core.Bool.{Bool}
+use Rattle.std.specs.Prelude.{Some, None, is_some, Option as OptionOf}
 use mathlib.Core.List.{List, []}
 use native.Mathlib.Omega.{arith}
 use mir.Syntax.{w64}
@@ -10,8 +11,8 @@ use lib.ListN.{length, take, get_or, replicate, length-append}
 use Rattle.word.specs.Word.{layer_in}
 use Rattle.fips180.proofs.Laws.{length_sha256}
 use Rattle.page.specs.Page.{entry_bytes}
-use Rattle.page_writer.specs.Front.{link_if, gap_length, entry_length, entry_after, page_end_bytes}
-use Rattle.page_writer.proofs.Sizes.{length_entry, length_page_end}
+use Rattle.page_writer.specs.Front.{link_held, gap_length, entry_length, entry_after, page_end_bytes}
+use Rattle.page_writer.proofs.Sizes.{Whole, length_entry, length_page_end}
 use Rattle.tree.specs.Tree.{Placed, gap_of, build}
 use Rattle.tree.specs.Record.{Record, spelt, spelt_under}
 use Rattle.tree.specs.Table.{link_of, bytes_of_page, digest_of}
@@ -23,28 +24,36 @@ use Rattle.layout.proofs.Ranges.{link_to, record_item, record_layer, cuts, no_by
 use Rattle.layout.proofs.Holding.{val_length}
 
 -- ---- links below
-some_digest : ℕ → List (Placed Record) → List ℕ
-some_digest zero rs = digest_of (build digest_of zero rs)
-some_digest (suc n) rs = digest_of (build digest_of n rs)
+link_below : ℕ → (ℕ → Placed Record) → ℕ → ℕ → OptionOf (List ℕ)
+link_below zero f i m = None
+link_below (suc n) f i zero = None
+link_below (suc n) f i (suc m) = Some (digest_of (build digest_of n (span f i (suc m))))
 
-some_length : (n : ℕ) (rs : List (Placed Record)) → length (some_digest n rs) ≡ 32
-unfolding some_digest digest_of
-some_length zero rs = length_sha256 (bytes_of_page (spelt (build digest_of zero rs)))
-some_length (suc n) rs = length_sha256 (bytes_of_page (spelt (build digest_of n rs)))
-
-link_is : (n : ℕ) (f : ℕ → Placed Record) (i m : ℕ) → link_to (gap_for n (span f i m)) ≡ link_if (has_page n m) (some_digest n (span f i m))
-unfolding gap_for link_of spelt_under has_page gap_of span some_digest
+link_is : (n : ℕ) (f : ℕ → Placed Record) (i m : ℕ) → link_to (gap_for n (span f i m)) ≡ link_held (link_below n f i m)
+unfolding gap_for link_of spelt_under gap_of span link_below
 link_is zero f i m = refl
 link_is (suc n) f i zero = refl
 link_is (suc n) f i (suc m) = refl
 
+some_below : (n : ℕ) (f : ℕ → Placed Record) (i m : ℕ) → is_some (link_below n f i m) ≡ has_page n m
+unfolding has_page link_below
+some_below zero f i m = refl
+some_below (suc n) f i zero = refl
+some_below (suc n) f i (suc m) = refl
+
+whole_below : (n : ℕ) (f : ℕ → Placed Record) (i m : ℕ) → Whole (link_below n f i m)
+unfolding digest_of link_below
+whole_below zero f i m = tt
+whole_below (suc n) f i zero = tt
+whole_below (suc n) f i (suc m) = length_sha256 (bytes_of_page (spelt (build digest_of n (span f i (suc m)))))
+
 module _ (n : ℕ) (f : ℕ → Placed Record) (i m : ℕ) where
   entry_size : (before key val : List ℕ) → length val ≡ 33
       → length (entry_bytes (entry_after before key (link_to (gap_for n (span f i m))) val)) ≡ entry_length before key (has_page n m)
-  entry_size before key val h = rw (link_is n f i m) (length_entry before key (has_page n m) (some_digest n (span f i m)) val (some_length n (span f i m)) h)
+  entry_size before key val h = rw (link_is n f i m, ← some_below n f i m) (length_entry before key (link_below n f i m) val (whole_below n f i m) h)
 
   pub end_size : length (page_end_bytes (link_to (gap_for n (span f i m)))) ≡ 2 + gap_length (has_page n m)
-  end_size = rw (link_is n f i m) (length_page_end (has_page n m) (some_digest n (span f i m)) (some_length n (span f i m)))
+  end_size = rw (link_is n f i m, ← some_below n f i m) (length_page_end (link_below n f i m) (whole_below n f i m))
 
 -- ---- the entries before the i-th record are counted
 pub record Counted (s u row : List ℕ) (n first hi count i : ℕ) : Type 0 where

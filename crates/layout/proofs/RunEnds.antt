@@ -1,7 +1,6 @@
 -- The highest layer of a range, the run of records of other layers, and gaps with and without a page.
 use Prim.Native.Nat.{ℕ, zero, suc, ◌+◌, ◌-◌, ◌≤◌, ◌<◌, max}
 use mathlib.Core.Path.{◌≡◌, refl, sym, ap, ◌∙◌}
-use mathlib.Core.Bool.{true, false}
 use mathlib.Core.List.{List}
 use mathlib.Core.Logic.{⊎_elim}
 use native.Mathlib.Omega.{arith}
@@ -12,6 +11,12 @@ use Rattle.word.specs.Word.{layer_in}
 use Rattle.tree.specs.Tree.{top_layer}
 use Rattle.layout.specs.Build.{record_in, span}
 use Rattle.layout.specs.Layout.{has_page}
+use Rattle.std.proofs.Common.{nat_lt, nat_cmp, cond}
+use Rattle.std.specs.declared.cmp.Ordering.{Ordering}
+use Rattle.std.specs.declared.cmp.Ordering.TheVariants.{Less, Equal, Greater}
+use Rattle.std.specs.Ordering.{MatchOrdering, is_lt, ord_max}
+use Rattle.std.specs.Cmp.{ranks}
+use Rattle.std.proofs.lemmas.Bool.{le-ltb, lt-ltb}
 
 -- ---- the highest layer
 -- the first i records are looked at
@@ -49,17 +54,25 @@ others_more row n lo i x f e g j h k q =
     ⊎_elim (λ p. g (e ∙ ap (λ (m : ℕ). layer_in (get_or row m 0)) (sym p) ∙ q)) (λ p. f j h p q) (eq-or-lt_of_le (le_of_suc-le-suc (rw add-one at k)))
 
 -- ---- gaps
-pub page_bottom : (n m : ℕ) → n ≡ 0 → false ≡ has_page n m
+pub page_bottom : (n m : ℕ) → n ≤ 0 → nat_lt 0 n ≡ has_page n m
 unfolding has_page
-page_bottom n m e = rw e
+page_bottom zero m h = refl
+page_bottom (suc n) m h = absurd (omega arith)
 
-pub page_none : (n m : ℕ) → m ≡ 0 → false ≡ has_page n m
+page_of_range : (n m lo hi : ℕ) → 0 < n → lo ≤ hi → m ≡ hi - lo → nat_lt lo hi ≡ has_page n m
 unfolding has_page
-page_none zero m e = refl
-page_none (suc n) m e = rw e
+page_of_range zero m lo hi h k e = absurd (omega arith)
+page_of_range (suc n) zero lo hi h k e = le-ltb lo hi (omega (arith, e))
+page_of_range (suc n) (suc m) lo hi h k e = lt-ltb lo hi (omega (arith, e))
 
-pub page_some : (n m : ℕ) → (n ≡ 0 → ⊥) → 0 < m → true ≡ has_page n m
-unfolding has_page
-page_some zero m f h = absurd (f refl)
-page_some (suc n) zero f h = absurd (omega arith)
-page_some (suc n) (suc m) f h = refl
+pub page_within : (n lo hi : ℕ) → 0 < n → lo ≤ hi → nat_lt lo hi ≡ has_page n (hi - lo)
+page_within n lo hi h k = page_of_range n (hi - lo) lo hi h k refl
+
+-- ---- the greater of two numbers, as `max` of std says it
+greater_by : (a b : ℕ) (o : Ordering) → MatchOrdering o (b < a) (b ≡ a) (a < b) → cond (is_lt o) a b ≡ max a b
+greater_by a b Less h = omega arith
+greater_by a b Equal h = omega arith
+greater_by a b Greater h = omega arith
+
+pub greater_is : (a b : ℕ) → ord_max nat_cmp a b ≡ max a b
+greater_is a b = greater_by a b (nat_cmp b a) (ranks b a)

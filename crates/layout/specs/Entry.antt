@@ -1,10 +1,10 @@
 -- What is said of the entry of a record.
-use Rattle.std.specs.Prelude.{ℕ, ◌^◌, ◌≤◌, ◌<◌, ◌≡◌, Bool, true, List, length, take, leb}
-use Rattle.std.proofs.Math.Option.{Option}
+use Rattle.std.specs.Prelude.{ℕ, ◌^◌, ◌≤◌, ◌<◌, ◌≡◌, List, length, take, leb, Option, is_some, IfSome}
+use Rattle.std.proofs.Math.Option as maybe
 use Rattle.limits.specs.Limits.{longest_key}
 use Rattle.bytestring.specs.Bytes.{front}
 use Rattle.page.specs.Page.{entry_bytes}
-use Rattle.page_writer.specs.Front.{link_if, entry_length, entry_after}
+use Rattle.page_writer.specs.Front.{link_held, entry_length, entry_after}
 use Rattle.row.specs.Row.{record_of_word, Stands}
 use Rattle.row.specs.Memory.{Remembers}
 use Rattle.layout.specs.declared.records.Added.{Added}
@@ -28,13 +28,17 @@ pub record KeyHeld (s u : List ℕ) (word : ℕ) (keys notes held : List ℕ) (s
   pub key : take size held ≡ (record_of_word s u word).key
 
 -- The bytes of its entry after the key before.
-abbrev pub bytes_after : List ℕ → List ℕ → ℕ → List ℕ → Option (List ℕ) → List ℕ
+abbrev pub bytes_after : List ℕ → List ℕ → ℕ → List ℕ → maybe.Option (List ℕ) → List ℕ
 bytes_after s u word before after = entry_bytes (entry_after before (record_of_word s u word).key after (record_of_word s u word).val)
 
--- That entry stands at the front of what was lent, if it has room there, and its key is held.
-pub record EntryTried (s u : List ℕ) (word : ℕ) (before : List ℕ) (linked : Bool) (link lent out keys notes held : List ℕ) (r : Added) : Type 0 where
-  pub room : r.room ≡ leb (entry_length before (record_of_word s u word).key linked) (length lent)
-  pub wrote : r.room ≡ true → out ≡ front (bytes_after s u word before (link_if linked link)) lent
-  pub size : r.room ≡ true → r.len ≡ entry_length before (record_of_word s u word).key linked
-  pub next : r.room ≡ true → KeyHeld s u word keys notes held r.held
+-- That entry stands at the front of what was lent, and its key is held.
+pub record EntryWritten (s u : List ℕ) (word : ℕ) (before : List ℕ) (link : Option (List ℕ)) (lent out keys notes held : List ℕ) (r : Added) : Type 0 where
+  pub wrote : out ≡ front (bytes_after s u word before (link_held link)) lent
+  pub size : r.len ≡ entry_length before (record_of_word s u word).key (is_some link)
+  pub next : KeyHeld s u word keys notes held r.held
+
+-- It is written if it has room there.
+pub record EntryTried (s u : List ℕ) (word : ℕ) (before : List ℕ) (link : Option (List ℕ)) (lent out keys notes held : List ℕ) (r : Option Added) : Type 0 where
+  pub room : is_some r ≡ leb (entry_length before (record_of_word s u word).key (is_some link)) (length lent)
+  pub done : IfSome r (EntryWritten s u word before link lent out keys notes held)
   pub memory : Remembers s u keys notes

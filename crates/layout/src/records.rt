@@ -1,9 +1,9 @@
 // The entry of a record: its length and its bytes. Its key is held for the entry after it.
-ghost use Rattle.std.specs.Prelude.{◌≡◌, ◌+◌, ◌≤◌, length, take, drop, leb};
+ghost use Rattle.std.specs.Prelude.{◌≡◌, ◌+◌, ◌≤◌, length, take, drop, leb, is_some};
 ghost use Rattle.limits.specs.Limits.{longest_key};
 ghost use Rattle.bytestring.specs.Bytes.{front};
 ghost use Rattle.page.specs.Page.{entry_bytes};
-ghost use Rattle.page_writer.specs.Front.{link_if, entry_length, entry_after};
+ghost use Rattle.page_writer.specs.Front.{link_held, entry_length, entry_after};
 ghost use Rattle.layout.specs.Entry.{Asks, Holding, EntryTried};
 
 use bytestring::write_bytes;
@@ -15,10 +15,9 @@ use value::{Digest, Value};
 // An entry takes no more bytes than these: its key has at most 256.
 const LONGEST_ENTRY: usize = 353;
 
-// An entry's length, and that of its key, which is held; or that there is no room for it.
+// An entry's length, and that of its key, which is held.
 #[derive(Clone, Copy)]
 pub struct Added {
-    pub room: bool,
     pub len: usize,
     pub held: usize,
 }
@@ -51,10 +50,7 @@ fn fits_after(
     requires { (from + size ≤ length keys.now) × (size ≤ longest_key) }
     ensures { result ≡ leb (entry_length previous.now (take size (drop from keys.now)) linked) room }
 {
-    if LONGEST_ENTRY <= room {
-        return true;
-    }
-    length_after(previous, keys, from, size, linked) <= room
+    LONGEST_ENTRY <= room || length_after(previous, keys, from, size, linked) <= room
 }
 
 // That entry, at the front of out.
@@ -64,15 +60,14 @@ fn write_after(
     keys: &[u8],
     from: usize,
     size: usize,
-    linked: bool,
-    link: Digest,
+    link: Option<Digest>,
     value: Value,
 ) -> usize
-    requires { (from + size ≤ length keys.now) × (size ≤ longest_key) × (entry_length previous.now (take size (drop from keys.now)) linked ≤ length out.old) }
-    ensures output { out.new ≡ front (entry_bytes (entry_after previous.now (take size (drop from keys.now)) (link_if linked link) value)) out.old }
-    ensures count { result ≡ entry_length previous.now (take size (drop from keys.now)) linked }
+    requires { (from + size ≤ length keys.now) × (size ≤ longest_key) × (entry_length previous.now (take size (drop from keys.now)) (is_some link) ≤ length out.old) }
+    ensures output { out.new ≡ front (entry_bytes (entry_after previous.now (take size (drop from keys.now)) (link_held link) value)) out.old }
+    ensures count { result ≡ entry_length previous.now (take size (drop from keys.now)) (is_some link) }
 {
-    write_entry(out, previous, &keys[from..from + size], linked, link, value)
+    write_entry(out, previous, &keys[from..from + size], link, value)
 }
 
 // The entry of a word's record at the front of out, after the key held, where it has room; its key is the next one held.
@@ -84,38 +79,27 @@ pub fn write_record(
     notes: &mut [u64],
     previous: &mut [u8],
     held: usize,
-    linked: bool,
-    link: Digest,
+    link: Option<Digest>,
     out: &mut [u8],
-) -> Added
+) -> Option<Added>
     requires { Asks s.now u.now word × Holding s.now u.now keys.old notes.old previous.old held }
-    ensures { EntryTried s.now u.now word (take held previous.old) linked link out.old out.new keys.new notes.new previous.new result }
+    ensures { EntryTried s.now u.now word (take held previous.old) link out.old out.new keys.new notes.new previous.new result }
 {
     let found = recall(s, u, word, 64, keys, notes);
     let from = found.from;
     let size = found.size;
-    if !fits_after(&previous[..held], keys, from, size, linked, out.len()) {
-        return Added {
-            room: false,
-            len: 0,
-            held: 0,
-        };
-    }
-    let value = value_of(s, u, word, found.value);
-    let len = write_after(
-        out,
+    if !fits_after(
         &previous[..held],
         keys,
         from,
         size,
-        linked,
-        link,
-        value,
-    );
-    hold(previous, keys, from, size);
-    Added {
-        room: true,
-        len,
-        held: size,
+        link.is_some(),
+        out.len(),
+    ) {
+        return None;
     }
+    let value = value_of(s, u, word, found.value);
+    let len = write_after(out, &previous[..held], keys, from, size, link, value);
+    hold(previous, keys, from, size);
+    Some(Added { len, held: size })
 }

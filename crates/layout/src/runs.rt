@@ -6,23 +6,14 @@ ghost use Rattle.layout.specs.Layout.{Run, has_page};
 
 use word::layer_in;
 
-// The greater of two numbers.
-pub fn higher(a: usize, b: usize) -> usize
-    ensures { result ≡ max a b }
-{
-    if a < b { b } else { a }
-}
-
 // The highest layer of the first n records.
 pub fn top_layer(row: &[u64], n: usize) -> usize
     requires { n ≤ length row.now }
     ensures { (s u : List ℕ) → result ≡ top_layer (span (record_in s u row.now) 0 n) }
 {
     let mut top = 0;
-    let mut i = 0;
-    while i < n {
-        top = higher(top, layer_in(row[i]));
-        i += 1;
+    for i in 0..n {
+        top = top.max(layer_in(row[i]));
     }
     top
 }
@@ -32,14 +23,12 @@ pub fn run_end(row: &[u64], lo: usize, hi: usize, layer: usize) -> usize
     requires { (lo ≤ hi) × (hi ≤ length row.now) }
     ensures { Run row.now layer lo hi result }
 {
-    let mut i = lo;
-    while i < hi {
+    for i in lo..hi {
         if layer_in(row[i]) == layer {
             return i;
         }
-        i += 1;
     }
-    i
+    hi
 }
 
 // How many entries the page of lo..hi has.
@@ -50,6 +39,7 @@ pub fn count_entries(row: &[u64], lo: usize, hi: usize, layer: usize) -> usize
 {
     let mut count = 0;
     let mut i = run_end(row, lo, hi, layer);
+    // The position moves from entry to entry.
     while i < hi {
         count += 1;
         i = run_end(row, i + 1, hi, layer);
@@ -62,11 +52,5 @@ pub fn has_page(lo: usize, hi: usize, layer: usize) -> bool
     requires { lo ≤ hi }
     ensures { result ≡ has_page layer (hi - lo) }
 {
-    if layer == 0 {
-        return false;
-    }
-    if lo == hi {
-        return false;
-    }
-    true
+    0 < layer && lo < hi
 }

@@ -6,7 +6,7 @@ ghost use Rattle.layout.specs.Build.{record_in, entries_at};
 ghost use Rattle.layout.specs.Layout.{Ready, EntriesSized, Sized};
 
 use crate::records::{hold, length_after};
-use crate::runs::{count_entries, has_page, higher, run_end};
+use crate::runs::{count_entries, has_page, run_end};
 use limits::LONGEST_KEY;
 use page_writer::{page_end_length, page_start_length};
 use row::recall::recall;
@@ -38,6 +38,7 @@ fn measure_entries(
     let mut held = 0;
     let mut len = 0;
     let mut i = first;
+    // The position moves from entry to entry.
     while i < hi {
         let next = run_end(row, i + 1, hi, layer);
         let linked = has_page(i + 1, next, layer);
@@ -73,7 +74,7 @@ pub fn measure(
     let ends = page_start_length(count) + page_end_length(has_page(lo, first, layer));
     if layer == 0 {
         return Size {
-            own: higher(room, ends),
+            own: room.max(ends),
             count,
             first,
         };

@@ -34,6 +34,10 @@ module _ {o e : List ℕ} {at : ℕ} {x : List ℕ} where
         omega (arith, length-append p x, length-append x y, length-append p (x ++ y));
   }
 
+  -- as it is answered
+  pub adds_none : Adds o at x e None → {r : Option ℕ} → r ≡ None → Adds o at x e r
+  adds_none f {r} h = subst (λ (q : Option ℕ). Adds o at x e q) (sym h) f
+
   pub adds_same : {r : Option ℕ} {y : List ℕ} → Adds o at x e r → y ≡ x → Adds o at y e r
   adds_same {r} f h = subst (λ (l : List ℕ). Adds o at l e r) (sym h) f
 

@@ -15,7 +15,7 @@ use Rattle.row.specs.declared.recall.Recalled.{Recalled}
 use Rattle.row.proofs.Rows.{source_same, records_none, records_more, records_split}
 use Rattle.promises.specs.Listing.{hex_digit, hexadecimal, space, line_feed, record_lines}
 use Rattle.listing.specs.Text.{Adds, line_end, line_of, LineSays}
-use Rattle.listing.proofs.Adding.{adds_nothing, adds_then, adds_short, adds_same}
+use Rattle.listing.proofs.Adding.{adds_nothing, adds_then, adds_short, adds_none, adds_same}
 
 -- ---- the end of a line
 one_more_byte : (l : List ℕ) (b : ℕ) → hexadecimal (l ++ (b ∷ [])) ≡ hexadecimal l ++ (hex_digit (b / 16) ∷ hex_digit (b % 16) ∷ [])
@@ -72,8 +72,8 @@ module _ {s keys notes : List ℕ} {word : ℕ} {found : Recalled} (w : Recalls 
   key_added : Adds o at (record_of_word s s word).key m q
   key_added = adds_same a (sym w.key ∙ ap (λ (i : ℕ). take i (drop found.from keys)) (sym size))
 
-  pub short_line : q ≡ None → LineSays s word o at m keys notes None
-  short_line h = record { line = adds_short key_added h (line_end (record_of_word s s word).val); remembers = w.remembers }
+  pub short_line : q ≡ None → {r : Option ℕ} → r ≡ None → LineSays s word o at m keys notes r
+  short_line h e = record { line = adds_none (adds_short key_added h (line_end (record_of_word s s word).val)) e; remembers = w.remembers }
 
   pub whole_line : {e value rest : List ℕ} {next : ℕ} {r : Option ℕ} → q ≡ Some next → (found.value + 32 ≤ length s → value ≡ value_in s found.value)
       → rest ≡ line_end value → Adds m next rest e r → LineSays s word o at e keys notes r
@@ -129,8 +129,10 @@ module _ (s index o : List ℕ) (at : ℕ) (out : List ℕ) (next i : ℕ) (u : 
     pub lines_more : (past : ℕ) → q ≡ Some past → LinesSoFar s index o at e past (i + 1)
     lines_more past h = subst (λ (r : Option ℕ). Adds o at (record_lines (records_of s s index (i + 1))) e r) h with_line
 
-    pub lines_short : q ≡ None → Lines e None
-    lines_short h =
+    pub lines_short : q ≡ None → {r : Option ℕ} → r ≡ None → Lines e r
+    lines_short h end =
         let rest : List Record = map (record_of_word s s) (take (count - (i + 1)) (drop (i + 1) index)) in
-        adds_same (adds_short with_line h (record_lines rest))
-        (ap record_lines (records_split s s index (i + 1) count (omega arith)) ∙ lines_append (records_of s s index (i + 1)) rest)
+        adds_none
+        (adds_same (adds_short with_line h (record_lines rest))
+        (ap record_lines (records_split s s index (i + 1) count (omega arith)) ∙ lines_append (records_of s s index (i + 1)) rest))
+        end

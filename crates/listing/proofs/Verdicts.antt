@@ -1,7 +1,7 @@
 -- The text for a verdict.
-use Rattle.std.specs.Prelude.{Option, Some, None}
+use Rattle.std.specs.Prelude.{Option, Some, None, unwrap_or}
 use Prim.Native.Nat.{ℕ, ◌+◌, ◌^◌, ◌≤◌, ◌<◌}
-use mathlib.Core.Path.{◌≡◌, sym, ap, subst, ◌∙◌}
+use mathlib.Core.Path.{◌≡◌, sym, ap, ◌∙◌}
 use mathlib.Core.List.{List, [], ◌∷◌, ◌++◌}
 use native.Mathlib.Omega.{arith}
 use lib.ListN.{length, take}
@@ -18,7 +18,7 @@ use Rattle.row.proofs.Rows.{accepted_short, accepted_row, accepted_records_lem}
 use Rattle.promises.specs.Listing.{decimal, space, line_feed, record_lines, listing_of, refusal_line, listing_verdict, longest_input, listing, longest_listing}
 use Rattle.promises.proofs.ListingLaws.{too_long, first_bytes_decide, listing_fits}
 use Rattle.listing.specs.Text.{IsPrefixLen, TextStands, Adds, ListsInput}
-use Rattle.listing.proofs.Adding.{adds_then, adds_short, adds_same, adds_first, then_lines}
+use Rattle.listing.proofs.Adding.{adds_then, adds_short, adds_none, adds_same, adds_first, then_lines}
 
 -- ---- the first lines
 abbrev first_line : List ℕ → ℕ → List ℕ
@@ -66,20 +66,14 @@ module _ {s index : List ℕ} {count : ℕ} (short : length s ≤ 65536) (a : Ac
       let all : records_of s s index count ≡ records a.tree = accepted_records_lem s index a.tree count b a.judged a.indexed a.size a.room s in
       adds_first (adds_then f h (adds_same l (ap record_lines (sym all)))) accepted_text
 
-  pub wrote_short : q ≡ None → TextStands m (listing s) None
-  wrote_short h = adds_first (adds_short f h (record_lines (records a.tree))) accepted_text
+  pub wrote_short : q ≡ None → {r : Option ℕ} → r ≡ None → TextStands m (listing s) r
+  wrote_short h e = adds_first (adds_none (adds_short f h (record_lines (records a.tree))) e) accepted_text
 
 -- ---- the whole text, with room for it
-module _ (s out : List ℕ) {r : Option ℕ} (w : TextStands out (listing s) r) where
-  pub wrote_whole : {n : ℕ} → r ≡ Some n → IsPrefixLen n out × (take n out ≡ listing s)
-  wrote_whole {n} e =
-      let t = subst (λ (q : Option ℕ). TextStands out (listing s) q) e w in
-      ((t.1, sym (length-take-le n out t.1)), t.2)
-
-  pub never_short : Bytes s → length out ≡ longest_listing → r ≡ None → ⊥
-  never_short b h e =
-      let short = subst (λ (q : Option ℕ). TextStands out (listing s) q) e w in
-      omega (arith, listing_fits (record { list = s; small = b }))
+pub wrote_whole : (s out : List ℕ) (r : Option ℕ) → TextStands out (listing s) r → Bytes s → length out ≡ longest_listing → (n : ℕ) → n ≡ unwrap_or r 0
+    → IsPrefixLen n out × (take n out ≡ listing s)
+wrote_whole s out (Some k) w b size n e = rw e ((w.1, sym (length-take-le k out w.1)), w.2)
+wrote_whole s out None w b size n e = absurd (omega (arith, w, listing_fits (record { list = s; small = b })))
 
 -- ---- what was read decides
 pub lists_input : (buffer out : List ℕ) (n m : ℕ) → length buffer ≡ longest_input + 1 → take m out ≡ listing (take n buffer) → ListsInput buffer n (take m out)

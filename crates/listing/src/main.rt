@@ -26,6 +26,7 @@ fn read_full<R: Read>(reader: &mut R, buffer: &mut [u8]) -> io::Result<usize>
     ensures bytes { IfOk result (λ n. IfSome (R.remaining reader.old) (λ xs. take n buffer.new ≡ take (length buffer.new) xs)) }
 {
     let mut done = 0;
+    // A read takes as many bytes as it gets.
     while done < buffer.len() {
         let n = reader.read(&mut buffer[done..])?;
         if n == 0 {

@@ -27,10 +27,8 @@ fn add_byte(out: &mut [u8], at: usize, byte: u8) -> Option<usize>
 fn add(out: &mut [u8], at: usize, bytes: &[u8]) -> Option<usize>
     ensures { Adds out.old at bytes.now out.new result }
 {
-    if out.len() < at {
-        return None;
-    }
-    if out.len() - at < bytes.len() {
+    let room = out.len().checked_sub(at)?;
+    if room < bytes.len() {
         return None;
     }
     write_bytes(&mut out[at..], bytes);
@@ -47,23 +45,17 @@ fn add_digits(out: &mut [u8], at: usize, most: usize, n: usize) -> Option<usize>
     if n < 10 {
         return add_byte(out, at, 0x30 + n as u8);
     }
-    match add_digits(out, at, most - 1, n / 10) {
-        Some(next) => add_byte(out, next, 0x30 + (n % 10) as u8),
-        None => None,
-    }
+    let next = add_digits(out, at, most - 1, n / 10)?;
+    add_byte(out, next, 0x30 + (n % 10) as u8)
 }
 
 // The first line: a word and a number.
 fn add_first_line(out: &mut [u8], word: &[u8], n: usize) -> Option<usize>
     ensures { Adds out.old 0 (word.now ++ (decimal n ++ (line_feed ∷ []))) out.new result }
 {
-    match add(out, 0, word) {
-        Some(first) => match add_digits(out, first, 20, n) {
-            Some(next) => add_byte(out, next, 0x0A),
-            None => None,
-        },
-        None => None,
-    }
+    let first = add(out, 0, word)?;
+    let next = add_digits(out, first, 20, n)?;
+    add_byte(out, next, 0x0A)
 }
 
 fn hex_digit(n: u8) -> u8
@@ -79,12 +71,10 @@ fn line_end(value: &[u8]) -> [u8; 68]
     ensures { result ≡ line_end value.now }
 {
     let mut text = [0x20u8; 68];
-    let mut i = 0;
-    while i < VALUE {
+    for i in 0..VALUE {
         let byte = value[i];
         text[2 * i + 1] = hex_digit(byte / 16);
         text[2 * i + 2] = hex_digit(byte % 16);
-        i += 1;
     }
     text[67] = 0x0A;
     text
@@ -105,14 +95,9 @@ fn add_line(
     let found = recall(s, s, word, 0, keys, notes);
     let from = found.from;
     let to = from + found.size;
-    match add(out, at, &keys[from..to]) {
-        Some(next) => {
-            let value = value_at(s, found.value);
-            let rest = line_end(&value);
-            add(out, next, &rest)
-        }
-        None => None,
-    }
+    let next = add(out, at, &keys[from..to])?;
+    let value = value_at(s, found.value);
+    add(out, next, &line_end(&value))
 }
 
 // The lines of all records.
@@ -123,17 +108,8 @@ fn add_lines(out: &mut [u8], at: usize, s: &[u8], index: &[u64], count: usize) -
     let mut keys = [0u8; 16384];
     let mut notes = [0u64; 64];
     let mut next = at;
-    let mut i = 0;
-    while i < count {
-        match add_line(out, next, s, index[i], &mut keys, &mut notes) {
-            Some(past) => {
-                next = past;
-            }
-            None => {
-                return None;
-            }
-        }
-        i += 1;
+    for i in 0..count {
+        next = add_line(out, next, s, index[i], &mut keys, &mut notes)?;
     }
     Some(next)
 }
@@ -148,11 +124,11 @@ fn write_listing(s: &[u8], out: &mut [u8]) -> Option<usize>
     let mut index = [0u64; MOST];
     let mut chains = [0u64; 2 * MOST];
     match judge(s, &mut index, &mut chains) {
-        Ok((count, _)) => match add_first_line(out, b"records ", count) {
-            Some(at) => add_lines(out, at, s, &index, count),
-            None => None,
-        },
-        Err(refusal) => add_first_line(out, b"refused ", answer::number_of(refusal) as usize),
+        Ok((count, _)) => {
+            let at = add_first_line(out, b"records ", count)?;
+            add_lines(out, at, s, &index, count)
+        }
+        Err(refusal) => add_first_line(out, b"refused ", u64::from(refusal) as usize),
     }
 }
 
@@ -160,8 +136,5 @@ fn write_listing(s: &[u8], out: &mut [u8]) -> Option<usize>
 pub fn list_input(s: &[u8], out: &mut [u8; 524288]) -> usize
     ensures { IsPrefixLen result out.new × (take result out.new ≡ listing s.now) }
 {
-    match write_listing(s, out) {
-        Some(length) => length,
-        None => 0,
-    }
+    write_listing(s, out).unwrap_or(0)
 }

@@ -1,4 +1,5 @@
 // The call, with rows that are lent: for each register one with a word for each record and one with two words for each chain of its pages.
+// Where a register is refused, the output is cleared, so that no refusal goes out by `?`.
 ghost use Rattle.std.specs.Prelude.{◌≡◌, length};
 ghost use Rattle.index.specs.Accepted.{AcceptedIndex, ChainRow};
 ghost use Rattle.promises.specs.Moved.{merge_outcome, moved_output, headed};

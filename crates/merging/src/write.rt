@@ -38,20 +38,20 @@ pub fn write_chosen(
     ensures output { out.new ≡ moved_output (moved_to (woven_of true s.now u.now first.now n second.now m) (length out.old)) (length out.old) }
 {
     let mut row = [0u64; MOST];
-    match choose(s, u, first, n, second, m, &mut row) {
-        Some(count) => write_headed(
-            s,
-            u,
-            first_chains,
-            first_count,
-            second_chains,
-            second_count,
-            &row,
-            count,
-            root,
-            head,
-            out,
-        ),
-        None => refuse_headed(out, Refusal::TooManyRecords, head),
-    }
+    let Some(count) = choose(s, u, first, n, second, m, &mut row) else {
+        return refuse_headed(out, Refusal::TooManyRecords, head);
+    };
+    write_headed(
+        s,
+        u,
+        first_chains,
+        first_count,
+        second_chains,
+        second_count,
+        &row,
+        count,
+        root,
+        head,
+        out,
+    )
 }

@@ -1,5 +1,5 @@
 // The C interface. A slice is a pointer and a length. An answer is one number: the refusal's number alone, or 256 times the value. A head is
-// lent: the function that is called takes it by value and gives back the head to store.
+// lent: the call takes it by value and gives back the head to store.
 #![tactic(auto)]
 
 ghost use Rattle.std.specs.Prelude.{◌≡◌, length};
@@ -14,10 +14,9 @@ ghost use Rattle.path.specs.Path.{path_outcome};
 ghost use Rattle.path.specs.Verify.{verify_verdict, verify_answer};
 ghost use Rattle.promises.specs.Range.{at_or_after_outcome, before_outcome, run_outcome};
 ghost use Rattle.promises.specs.Outcome.{check_outcome, lookup_answer, list_outcome, list_answer, list_key, list_value, answer_of, output_of};
-ghost use Rattle.promises.specs.Moved.{put_outcome, join_outcome, remove_outcome, merge_outcome, moved_answer, moved_output, moved_head, headed};
-ghost use Rattle.mijdegen.specs.Coded.{coded_of};
+ghost use Rattle.promises.specs.Moved.{put_outcome, join_outcome, remove_outcome, merge_outcome, moved_answer, moved_output, moved_head};
 
-use head::{Head, Headed};
+use head::Head;
 use value::{Digest, Value};
 
 #[unsafe(no_mangle)]
@@ -42,45 +41,21 @@ pub extern "C" fn mijdegen_slash(input: &[u8]) -> u64
     answer::encode(key_calls::slash(input))
 }
 
-// What a call gives back to the function that lends it a head: the answer as one number, and the head to store.
-#[derive(Clone, Copy)]
-pub struct Coded {
-    pub code: u64,
-    pub head: Head,
-}
-
-// The answer of a call on a head by value, as one number.
-fn encode_headed(given: Headed) -> Coded
-    ensures { result ≡ coded_of given }
-{
-    let answer = given.answer;
-    let head = given.head;
-    let code = answer::encode(answer);
-    Coded { code, head }
-}
-
-// Check on a head by value. A function of this kind stands before each that is lent a head.
-fn check(lent: &[u8]) -> Coded
-    ensures { result ≡ coded_of (check_outcome lent.now) }
-{
-    encode_headed(register::check(lent))
-}
-
 #[unsafe(no_mangle)]
 pub extern "C" fn mijdegen_check(lent: &[u8], head: &mut Head) -> u64
     ensures answer { result ≡ encoded (check_outcome lent.now).answer }
     ensures head { head.new ≡ (check_outcome lent.now).head }
 {
-    let made = check(lent);
+    let made = register::check(lent);
     *head = made.head;
-    made.code
+    answer::encode(made.answer)
 }
 
 #[unsafe(no_mangle)]
 pub extern "C" fn mijdegen_lookup(lent: &[u8], sought: &[u8]) -> u64
     ensures { result ≡ encoded_of_two (lookup_answer lent.now sought.now) }
 {
-    answer::encode_two(register::lookup(lent, sought))
+    answer::encode(register::lookup(lent, sought))
 }
 
 #[unsafe(no_mangle)]
@@ -128,13 +103,6 @@ pub extern "C" fn mijdegen_run(lent: &[u8], first: &[u8], last: &[u8], out: &mut
     answer::encode(register::run(lent, first, last, out))
 }
 
-fn put(lent: &[u8], head: Head, sought: &[u8], value: &[u8], out: &mut [u8]) -> Coded
-    ensures coded { result ≡ coded_of (headed (put_outcome lent.now head sought.now value.now (length out.old)) head) }
-    ensures output { out.new ≡ moved_output (put_outcome lent.now head sought.now value.now (length out.old)) (length out.old) }
-{
-    encode_headed(register::put(lent, head, sought, value, out))
-}
-
 #[unsafe(no_mangle)]
 pub extern "C" fn mijdegen_put(
     lent: &[u8],
@@ -147,16 +115,9 @@ pub extern "C" fn mijdegen_put(
     ensures head { head.new ≡ moved_head (put_outcome lent.now head.old sought.now value.now (length out.old)) head.old }
     ensures output { out.new ≡ moved_output (put_outcome lent.now head.old sought.now value.now (length out.old)) (length out.old) }
 {
-    let moved = put(lent, *head, sought, value, out);
+    let moved = register::put(lent, *head, sought, value, out);
     *head = moved.head;
-    moved.code
-}
-
-fn join(lent: &[u8], head: Head, sought: &[u8], value: &[u8], out: &mut [u8]) -> Coded
-    ensures coded { result ≡ coded_of (headed (join_outcome lent.now head sought.now value.now (length out.old)) head) }
-    ensures output { out.new ≡ moved_output (join_outcome lent.now head sought.now value.now (length out.old)) (length out.old) }
-{
-    encode_headed(register::join(lent, head, sought, value, out))
+    answer::encode(moved.answer)
 }
 
 #[unsafe(no_mangle)]
@@ -171,16 +132,9 @@ pub extern "C" fn mijdegen_join(
     ensures head { head.new ≡ moved_head (join_outcome lent.now head.old sought.now value.now (length out.old)) head.old }
     ensures output { out.new ≡ moved_output (join_outcome lent.now head.old sought.now value.now (length out.old)) (length out.old) }
 {
-    let moved = join(lent, *head, sought, value, out);
+    let moved = register::join(lent, *head, sought, value, out);
     *head = moved.head;
-    moved.code
-}
-
-fn remove(lent: &[u8], head: Head, sought: &[u8], out: &mut [u8]) -> Coded
-    ensures coded { result ≡ coded_of (headed (remove_outcome lent.now head sought.now (length out.old)) head) }
-    ensures output { out.new ≡ moved_output (remove_outcome lent.now head sought.now (length out.old)) (length out.old) }
-{
-    encode_headed(register::remove(lent, head, sought, out))
+    answer::encode(moved.answer)
 }
 
 #[unsafe(no_mangle)]
@@ -194,16 +148,9 @@ pub extern "C" fn mijdegen_remove(
     ensures head { head.new ≡ moved_head (remove_outcome lent.now head.old sought.now (length out.old)) head.old }
     ensures output { out.new ≡ moved_output (remove_outcome lent.now head.old sought.now (length out.old)) (length out.old) }
 {
-    let moved = remove(lent, *head, sought, out);
+    let moved = register::remove(lent, *head, sought, out);
     *head = moved.head;
-    moved.code
-}
-
-fn merge(first: &[u8], head: Head, second: &[u8], out: &mut [u8]) -> Coded
-    ensures coded { result ≡ coded_of (headed (merge_outcome first.now head second.now (length out.old)) head) }
-    ensures output { out.new ≡ moved_output (merge_outcome first.now head second.now (length out.old)) (length out.old) }
-{
-    encode_headed(merging::merge(first, head, second, out))
+    answer::encode(moved.answer)
 }
 
 #[unsafe(no_mangle)]
@@ -217,9 +164,9 @@ pub extern "C" fn mijdegen_merge(
     ensures head { head.new ≡ moved_head (merge_outcome first.now head.old second.now (length out.old)) head.old }
     ensures output { out.new ≡ moved_output (merge_outcome first.now head.old second.now (length out.old)) (length out.old) }
 {
-    let moved = merge(first, *head, second, out);
+    let moved = merging::merge(first, *head, second, out);
     *head = moved.head;
-    moved.code
+    answer::encode(moved.answer)
 }
 
 #[unsafe(no_mangle)]
@@ -227,7 +174,7 @@ pub extern "C" fn mijdegen_difference(first: &[u8], second: &[u8], out: &mut [u8
     ensures answer { result ≡ encoded_of_two (counted_answer (difference_outcome first.now second.now (length out.old))) }
     ensures output { out.new ≡ counted_output (difference_outcome first.now second.now (length out.old)) (length out.old) }
 {
-    answer::encode_two(differing::difference(first, second, out))
+    answer::encode(differing::difference(first, second, out))
 }
 
 #[unsafe(no_mangle)]
@@ -235,7 +182,7 @@ pub extern "C" fn mijdegen_screen(lent: &[u8], collection: &[u8], n: u64, out: &
     ensures answer { result ≡ encoded_of_two (counted_answer (screen_outcome lent.now collection.now n (length out.old))) }
     ensures output { out.new ≡ counted_output (screen_outcome lent.now collection.now n (length out.old)) (length out.old) }
 {
-    answer::encode_two(screen::screen(lent, collection, n, out))
+    answer::encode(screen::screen(lent, collection, n, out))
 }
 
 #[unsafe(no_mangle)]
@@ -250,5 +197,5 @@ pub extern "C" fn mijdegen_path(lent: &[u8], sought: &[u8], out: &mut [u8]) -> u
 pub extern "C" fn mijdegen_verify(lent: &[u8], sought: &[u8], root: &[u8]) -> u64
     ensures { result ≡ encoded_of_two (verify_answer lent.now (verify_verdict lent.now sought.now root.now)) }
 {
-    answer::encode_two(path_reader::verify(lent, sought, root))
+    answer::encode(path_reader::verify(lent, sought, root))
 }

@@ -1,7 +1,8 @@
 -- The first register's labels are taken in part by part.
 use Prim.Native.Nat.{ℕ, zero, suc, ◌+◌, ◌*◌, ◌≤◌, ◌<◌}
 use mathlib.Core.Path.{◌≡◌, refl, sym, ap, ◌∙◌}
-use mathlib.Core.Bool.{Bool, true, false, cond, not, ◌||◌}
+use Rattle.std.specs.Prelude.{Option, None, Some, is_some, unwrap_or}
+use mathlib.Core.Bool.{Bool, true, false, cond, not, ◌||◌, false≢true}
 use mathlib.Core.List.{List, [], ◌∷◌, ◌++◌}
 use native.Mathlib.Omega.{arith}
 use lib.ListN.{length, take, drop, get_or, take-append-drop}
@@ -19,7 +20,6 @@ use Rattle.known.specs.Rows.{Chained, SomeChains, labels_of, label_count}
 use Rattle.known.specs.Known.{is_among, Tabled, digests_in, Filled, IsKnown, labels_before}
 use Rattle.opened.specs.Visits.{none_among, MarksAt}
 use Rattle.opened.specs.Passing.{Marked, Lowered, TookPart, AllMarked}
-use Rattle.opened.specs.declared.pass.Part.{Part}
 use Rattle.known.proofs.ChainRows.{accepted_filled, row_chained}
 use Rattle.known.proofs.Labels.{row_labels}
 use Rattle.known.proofs.Filling.{labels_append}
@@ -40,18 +40,28 @@ some_chains s row n bytes w = record { list = chains 0 0 [] w.tree; chained = ro
 pub filled_table : {s known heads words : List ℕ} {n start next : ℕ} → Filled s known n start heads words next → Tabled s heads words
 filled_table f = record { count = f.count; linked = f.linked }
 
-pub part_taken : (s known : List ℕ) (n start : ℕ) (root u row : List ℕ) (m : ℕ) (top marks marks' heads words : List ℕ) (next : ℕ) (found : Bool)
-    → Filled s known n start heads words next → Lowered s heads words root u row m marks marks' → IsKnown s heads words root top found
-    → TookPart s known n start root u row m top marks marks' (record { next = next; opens = not found })
-part_taken s known n start root u row m top marks marks' heads words next found f l k = record {
-  ahead = f.ahead;
-  most = f.most;
-  onward = f.onward;
-  part = digests_in s (take f.count words);
-  labels = f.digests;
-  lowered = λ ds cs x h. l ds cs x h f.count f.linked;
-  is_open = ap not (k f.count f.linked);
-}
+module _ (s known : List ℕ) (n start : ℕ) (root u row : List ℕ) (m : ℕ) (top marks marks' heads words : List ℕ) (next : ℕ) (found : Bool)
+    (f : Filled s known n start heads words next) (l : Lowered s heads words root u row m marks marks') (k : IsKnown s heads words root top found) where
+  pub part_taken : (r : Option ℕ) → r ≡ cond found None (Some next) → TookPart s known n start root u row m top marks marks' r
+  part_taken r e = record {
+    next = next;
+    ahead = f.ahead;
+    most = f.most;
+    onward = f.onward;
+    part = digests_in s (take f.count words);
+    labels = f.digests;
+    lowered = λ ds cs x h. l ds cs x h f.count f.linked;
+    answer = e ∙ ap (λ (b : Bool). cond b None (Some next)) (k f.count f.linked);
+  }
+
+-- what is answered
+part_next : (known : Bool) (n k : ℕ) (r : Option ℕ) → r ≡ cond known None (Some n) → r ≡ Some k → (k ≡ n) × (true ≡ not known)
+part_next true n k r e f = absurd (false≢true (ap is_some (sym e ∙ f)))
+part_next false n k r e f = (ap (λ (o : Option ℕ). unwrap_or o 0) (sym f ∙ e), refl)
+
+part_known : (known : Bool) (n : ℕ) (r : Option ℕ) → r ≡ cond known None (Some n) → r ≡ None → false ≡ not known
+part_known true n r e f = refl
+part_known false n r e f = absurd (false≢true (ap is_some (sym f ∙ e)))
 
 -- ---- marks by the same tests
 module _ (ds es : List (List ℕ)) (same : (d : List ℕ) → is_among ds d ≡ is_among es d) where
@@ -111,24 +121,24 @@ module _ (s known : List ℕ) (n : ℕ) (u row : List ℕ) (m : ℕ) (root top :
       (cs ds : List Chain) → Chained s known n cs → Chained u row m ds
       → MarksAt (root ∷ labels_of (take done cs)) marks 0 0 ds × (opens ≡ not (is_among (root ∷ labels_of (take done cs)) top))
 
-  pub first_taken : (marks marks' : List ℕ) (p : Part) → ((i : ℕ) → i < m → get_or marks i 0 ≡ label_count (get_or row (2 * i) 0))
-      → TookPart s known n 0 root u row m top marks marks' p → TakenTo marks' p.next p.opens
+  first_taken : (marks marks' : List ℕ) (p : Option ℕ) → ((i : ℕ) → i < m → get_or marks i 0 ≡ label_count (get_or row (2 * i) 0))
+      → (w : TookPart s known n 0 root u row m top marks marks' p) (opens : Bool) → opens ≡ not (is_among (root ∷ w.part) top) → TakenTo marks' w.next opens
   unfolding labels_of
-  first_taken marks marks' p f w cs ds x y =
-      rw (← w.labels cs x) (w.lowered [] ds y (begun u row m marks ds y f), w.is_open)
+  first_taken marks marks' p f w opens is cs ds x y =
+      rw (← w.labels cs x) (w.lowered [] ds y (begun u row m marks ds y f), is)
 
-  pub next_taken : (marks marks' : List ℕ) (done : ℕ) (opens : Bool) (p : Part) → TakenTo marks done opens → not opens ≡ false
-      → TookPart s known n done root u row m top marks marks' p → TakenTo marks' p.next p.opens
+  next_taken : (marks marks' : List ℕ) (done : ℕ) (p : Option ℕ) → TakenTo marks done true
+      → (w : TookPart s known n done root u row m top marks marks' p) (opens : Bool) → opens ≡ not (is_among (root ∷ w.part) top) → TakenTo marks' w.next opens
   unfolding is_among
-  next_taken marks marks' done opens p so_far still w cs ds x y =
+  next_taken marks marks' done p so_far w opens is cs ds x y =
       let (h, o) = so_far cs ds x y in
       let old : List (List ℕ) = labels_of (take done cs) in
-      let not_yet : is_among (root ∷ old) top ≡ false = not-true (is_among (root ∷ old) top) (sym o ∙ not-false opens still) in
+      let not_yet : is_among (root ∷ old) top ≡ false = not-true (is_among (root ∷ old) top) (sym o) in
       rw (← w.labels cs x) (
         marks_same ((root ∷ old) ++ (root ∷ w.part)) (root ∷ (old ++ w.part)) (λ d.
             rw (among_append (root ∷ old) (root ∷ w.part) d, among_append old w.part d) (twice (equal root d) (is_among old d) (is_among w.part d))) marks' 0 0 ds
             (w.lowered (root ∷ old) ds y h),
-        w.is_open ∙ rw (among_append old w.part top) (ap not (only_new (equal root top) (is_among old top) (is_among w.part top) not_yet)),
+        is ∙ rw (among_append old w.part top) (ap not (only_new (equal root top) (is_among old top) (is_among w.part top) not_yet)),
       )
     where
       twice : (a b c : Bool) → ((a || b) || (a || c)) ≡ (a || (b || c))
@@ -139,6 +149,24 @@ module _ (s known : List ℕ) (n : ℕ) (u row : List ℕ) (m : ℕ) (root top :
       only_new true b c e = refl
       only_new false true c e = let z : ◌≡◌ {A = ℕ} 0 1 = cc in absurd (omega arith)
       only_new false false c e = refl
+
+  module _ (marks marks' : List ℕ) (p : Option ℕ) (f : (i : ℕ) → i < m → get_or marks i 0 ≡ label_count (get_or row (2 * i) 0)) (w : TookPart s known n 0 root u row m top marks marks' p) where
+    pub first_goes_on : (k : ℕ) → p ≡ Some k → (k ≤ n) × TakenTo marks' k true
+    first_goes_on k e =
+        let a = part_next (is_among (root ∷ w.part) top) w.next k p w.answer e in
+        rw a.0 (w.most, first_taken marks marks' p f w true a.1)
+
+    pub first_known : p ≡ None → TakenTo marks' w.next false
+    first_known e = first_taken marks marks' p f w false (part_known (is_among (root ∷ w.part) top) w.next p w.answer e)
+
+  module _ (marks marks' : List ℕ) (done : ℕ) (p : Option ℕ) (so_far : TakenTo marks done true) (w : TookPart s known n done root u row m top marks marks' p) where
+    pub next_goes_on : (k : ℕ) → p ≡ Some k → (k ≤ n) × (done < n → done < k) × TakenTo marks' k true
+    next_goes_on k e =
+        let a = part_next (is_among (root ∷ w.part) top) w.next k p w.answer e in
+        rw a.0 (w.most, w.onward, next_taken marks marks' done p so_far w true a.1)
+
+    pub next_known : p ≡ None → TakenTo marks' w.next false
+    next_known e = next_taken marks marks' done p so_far w false (part_known (is_among (root ∷ w.part) top) w.next p w.answer e)
 
   pub later_marks : (marks : List ℕ) (done : ℕ) (opens : Bool) → TakenTo marks done opens → Bytes s → Bytes u → ChainRow s known n → ChainRow u row m → Marked u row m marks
   later_marks marks done opens so_far bytes others w x =

@@ -1,5 +1,5 @@
 -- What the passes over the second register's chains say.
-use Rattle.std.specs.Prelude.{ℕ, ◌+◌, ◌-◌, ◌≤◌, ◌<◌, ◌≡◌, Bool, true, false, cond, not, ◌&&◌, List, [], ◌∷◌, ◌++◌, map, length, take, drop, get_or}
+use Rattle.std.specs.Prelude.{ℕ, ◌+◌, ◌-◌, ◌≤◌, ◌<◌, ◌≡◌, Bool, true, false, cond, not, ◌&&◌, List, [], ◌∷◌, ◌++◌, map, length, take, drop, get_or, Option, None, Some}
 use Rattle.fips180.specs.Hash.{sha256}
 use Rattle.word.specs.Word.{from_second, second_word}
 use Rattle.tree.specs.Tree.{page, Gap, empty, under, Entries, end, entry}
@@ -11,7 +11,6 @@ use Rattle.promises.specs.Pages.{pages_of, known, opened_pages}
 use Rattle.known.specs.Rows.{Chained, labels_of}
 use Rattle.known.specs.Known.{is_among, Linked, digests_in}
 use Rattle.opened.specs.Visits.{visited, open_in, kept, Ordered, MarksAt}
-use Rattle.opened.specs.declared.pass.Part.{Part}
 use Rattle.opened.specs.declared.pass.Opening.{Opening}
 
 -- The digests of a tree's pages.
@@ -79,16 +78,17 @@ Lowered s heads words root u row m marks marks' =
     (digests : List (List ℕ)) (cs : List Chain) → Chained u row m cs → MarksAt digests marks 0 0 cs
     → (count : ℕ) → Linked s heads words count → MarksAt (digests ++ (root ∷ digests_in s (take count words))) marks' 0 0 cs
 
--- The labels of the chains from the start-th to before the next one were taken in. The second register's root, whose digest is `top`, is
--- opened as far as they say.
-pub record TookPart (s known : List ℕ) (n start : ℕ) (root u row : List ℕ) (m : ℕ) (top marks marks' : List ℕ) (r : Part) : Type 0 where
-  pub ahead : start ≤ r.next
-  pub most : r.next ≤ n
-  pub onward : start < n → start < r.next
+-- The labels of the chains from the start-th to before the next one were taken in. That one is answered, unless the second register's root,
+-- whose digest is `top`, is known by now.
+pub record TookPart (s known : List ℕ) (n start : ℕ) (root u row : List ℕ) (m : ℕ) (top marks marks' : List ℕ) (r : Option ℕ) : Type 0 where
+  pub next : ℕ
+  pub ahead : start ≤ next
+  pub most : next ≤ n
+  pub onward : start < n → start < next
   pub part : List (List ℕ)
-  pub labels : (cs : List Chain) → Chained s known n cs → labels_of (take start cs) ++ part ≡ labels_of (take r.next cs)
+  pub labels : (cs : List Chain) → Chained s known n cs → labels_of (take start cs) ++ part ≡ labels_of (take next cs)
   pub lowered : (digests : List (List ℕ)) (cs : List Chain) → Chained u row m cs → MarksAt digests marks 0 0 cs → MarksAt (digests ++ (root ∷ part)) marks' 0 0 cs
-  pub is_open : r.opens ≡ not (is_among (root ∷ part) top)
+  pub answer : r ≡ cond (is_among (root ∷ part) top) None (Some next)
 
 -- All digests of the first tree were taken in, unless the second's root is known.
 pub record AllMarked (t v : SpeltTree) (marks' : List ℕ) (r : Bool) : Type 0 where

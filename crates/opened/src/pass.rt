@@ -20,10 +20,7 @@ use word::{below_in, from_in, records_in, second_word};
 fn passed_over(word: u64, closed: bool) -> usize
     ensures { (result ≡ cond closed (below_in word) 0) × (result < 2 ^ 14) }
 {
-    if closed {
-        return below_in(word);
-    }
-    0
+    if closed { below_in(word) } else { 0 }
 }
 
 // At first no page is known.
@@ -31,10 +28,8 @@ fn begin_marks(chains: &[u64], m: usize, marks: &mut [u8])
     requires { (2 * m ≤ length chains.now) × (m ≤ length marks.old) × ((i : ℕ) → i < m → label_count (get_or chains.now (2 * i) 0) ≤ deepest) }
     ensures { (i : ℕ) → i < m → get_or marks.new i 0 ≡ label_count (get_or chains.now (2 * i) 0) }
 {
-    let mut i = 0;
-    while i < m {
+    for i in 0..m {
         marks[i] = label_count(chains[2 * i]) as u8;
-        i += 1;
     }
 }
 
@@ -53,6 +48,7 @@ fn lower_marks(
     ensures { Lowered s.now heads.now words.now root.now u.now chains.now m marks.old marks.new }
 {
     let mut i = 0;
+    // The position moves past the chains below a known page.
     while i < m {
         let word = chains[2 * i];
         let open = open_labels(s, heads, words, root, u, word, marks[i] as usize);
@@ -61,14 +57,8 @@ fn lower_marks(
     }
 }
 
-// Where the next part begins, and whether the second register's root is still opened.
-#[derive(Clone, Copy)]
-struct Part {
-    next: usize,
-    opens: bool,
-}
-
-// One part of the first register's labels, from the start-th chain on, is taken in.
+// One part of the first register's labels, from the start-th chain on, is taken in: where the next part begins, unless the second register's
+// root is known by now.
 fn take_part(
     s: &[u8],
     known: &[u64],
@@ -82,17 +72,16 @@ fn take_part(
     m: usize,
     top: &[u8],
     marks: &mut [u8],
-) -> Part
+) -> Option<usize>
     requires { SomeChains s.now known.now n × (start ≤ n) × (length heads.old ≡ 4096) × (length words.old ≡ 4096) × (length s.now < 2 ^ 32) × (length root.now ≡ digest_length) × Marked u.now chains.now m marks.old × (m ≤ length marks.old) × (length top.now ≡ digest_length) }
     ensures { TookPart s.now known.now n start root.now u.now chains.now m top.now marks.old marks.new result }
 {
     let next = fill(s, known, n, start, heads, words);
     lower_marks(s, heads, words, root, u, chains, m, marks);
-    let found = is_known(s, heads, words, root, top);
-    Part {
-        next,
-        opens: !found,
+    if is_known(s, heads, words, root, top) {
+        return None;
     }
+    Some(next)
 }
 
 // Each chain of the second register is marked with how many of its pages come before one that is known. Whether the second's root is opened;
@@ -114,22 +103,22 @@ fn mark_known(
     let mut heads = [0u32; 4096];
     let mut words = [0u64; 4096];
     begin_marks(chains, m, marks);
-    let first = take_part(
+    let Some(first) = take_part(
         s, known, n, 0, &root, &mut heads, &mut words, u, chains, m, &top, marks,
-    );
-    let mut done = first.next;
-    let mut opens = first.opens;
+    ) else {
+        return false;
+    };
+    let mut done = first;
+    // A part has as many chains as the table has room for.
     while done < n {
-        if !opens {
-            return false;
-        }
-        let part = take_part(
+        let Some(next) = take_part(
             s, known, n, done, &root, &mut heads, &mut words, u, chains, m, &top, marks,
-        );
-        done = part.next;
-        opens = part.opens;
+        ) else {
+            return false;
+        };
+        done = next;
     }
-    opens
+    true
 }
 
 // How many records are staged, and how many pages are opened.
@@ -144,11 +133,9 @@ fn copy_words(index: &[u64], from: usize, to: usize, row: &mut [u64], at: usize)
     requires { Room index.now row.old × (from ≤ to) × (to ≤ length index.now) × (at ≤ from) }
     ensures { Copied index.now row.old from to at row.new result }
 {
-    let mut i = from;
     let mut k = at;
-    while i < to {
+    for i in from..to {
         row[k] = second_word(index[i]);
-        i += 1;
         k += 1;
     }
     k
@@ -164,6 +151,7 @@ fn stage_kept(chains: &[u64], m: usize, marks: &[u8], index: &[u64], row: &mut [
     let mut from = 0;
     let mut staged = 0;
     let mut i = 0;
+    // The position moves past the chains below a known page.
     while i < m {
         let open = marks[i] as usize;
         let word = chains[2 * i + 1];

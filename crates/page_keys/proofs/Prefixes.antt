@@ -9,7 +9,8 @@ use native.Mathlib.Nat.{sub-zero}
 use lib.Dec.{eqb}
 use lib.ListN.{length, take, drop, get_or}
 use lib.Seq.{drop-cons, get_or-take}
-use borrow.Author.Tests.{eq-eqb, ne_eqb, not-true, not-false}
+use borrow.Table.Steps.{cases}
+use borrow.Author.Tests.{eqb-true, eqb-false, eq-eqb, ne_eqb, not-true, not-false}
 use Rattle.bytestring.specs.Bytes.{Bytes}
 use Rattle.key.specs.Key.{shared}
 use Rattle.page.specs.Reading.{read, times}
@@ -82,16 +83,22 @@ module _ (buffer s : List ℕ) (size shares at n : ℕ) where
           sym (get_or-take (length buffer) k shares 0 room) ∙ ap (λ (l : List ℕ). get_or l shares 0) (sym w.bytes)
           ∙ get_or-take size buffer shares 0 (omega (arith, w.size, longer k w))
 
-      pub byte_differs : (get_or buffer shares 0 ≡ get_or s at 0 → ⊥) → PrefixIs buffer size s shares at n true
+      byte_differs : (get_or buffer shares 0 ≡ get_or s at 0 → ⊥) → PrefixIs buffer size s shares at n true
       unfolding PrefixIs
       byte_differs f k w room =
           rw first (sym (eq-eqb shares _ (sym (shared_off k _ shares (get_or s at 0) (longer k w) (λ q. f (sym (held k w room) ∙ q))))))
 
-      pub byte_agrees : get_or buffer shares 0 ≡ get_or s at 0 → PrefixIs buffer size s shares at n false
+      byte_agrees : get_or buffer shares 0 ≡ get_or s at 0 → PrefixIs buffer size s shares at n false
       unfolding PrefixIs
       byte_agrees f k w room =
           let h = shared_on k (take (n - 1) (drop (suc at) s)) shares (get_or s at 0) (longer k w) (held k w room ∙ f) in
           rw first (sym (ne_eqb shares _ (λ q. omega (arith, q, h))))
+
+      pub byte_compared : PrefixIs buffer size s shares at n (not (eqb (get_or buffer shares 0) (get_or s at 0)))
+      byte_compared =
+          let b = get_or buffer shares 0 in
+          let c = get_or s at 0 in
+          cases (eqb b c) (λ q. rw q (byte_agrees (eqb-true b c q))) (λ q. rw q (byte_differs (eqb-false b c q)))
 
 -- ---- a row of entries
 -- What is left of a row that was read, and the key before it, which the buffer holds.

@@ -2,7 +2,7 @@
 // length is kept beside it. The functions are for the crates above and no public calls.
 #![tactic(auto)]
 
-ghost use Rattle.std.specs.Prelude.{◌≡◌, true, List, [], ℕ, ◌+◌, ◌≤◌, ◌<◌, min, length, take, drop};
+ghost use Rattle.std.specs.Prelude.{◌≡◌, true, List, [], ℕ, ◌+◌, ◌≤◌, ◌<◌, length, take, drop};
 ghost use Rattle.limits.specs.Limits.{numbers, longest_key};
 ghost use Rattle.page.specs.Reading.{times, read};
 ghost use Rattle.page.specs.Page.{entry, RawEntry};
@@ -13,13 +13,6 @@ use bytestring::write_bytes;
 use key_calls::slash;
 use key_order::compare;
 use page_reader::read_entry;
-use std::cmp::Ordering;
-
-fn lesser(a: usize, b: usize) -> usize
-    ensures { result ≡ min a b }
-{
-    if a < b { a } else { b }
-}
 
 // The key held goes on after its first bytes, as many as it shares, with n bytes of s. The new length.
 pub fn extend_key(
@@ -33,11 +26,11 @@ pub fn extend_key(
     requires { (at + n ≤ length s.now) × (shares < numbers) × (n < numbers) }
     ensures { Extended buffer.old size s.now shares at n buffer.new result }
 {
-    let keep = lesser(shares, size);
+    let keep = shares.min(size);
     if buffer.len() <= keep {
         return keep + n;
     }
-    let end = at + lesser(n, buffer.len() - keep);
+    let end = at + n.min(buffer.len() - keep);
     write_bytes(&mut buffer[keep..], &s[at..end]);
     keep + n
 }
@@ -60,10 +53,7 @@ pub fn prefix_fits(buffer: &[u8], size: usize, s: &[u8], shares: usize, at: usiz
     if n == 0 {
         return true;
     }
-    if buffer[shares] == s[at] {
-        return false;
-    }
-    true
+    buffer[shares] != s[at]
 }
 
 // Whether the prefix lengths of the n entries from first on are right. The buffer has room for every byte that a prefix can reach.
@@ -73,24 +63,18 @@ pub fn prefixes_fit(s: &[u8], first: usize, n: usize, buffer: &mut [u8]) -> bool
 {
     let mut size = 0;
     let mut at = first;
-    let mut i = 0;
-    while i < n {
-        match read_entry(s, at) {
-            Ok(e) => {
-                let shares = e.shares;
-                let remainder = e.remainder;
-                let length = e.size;
-                if !prefix_fits(buffer, size, s, shares, remainder, length) {
-                    return false;
-                }
-                size = extend_key(buffer, size, s, shares, remainder, length);
-                at = e.end;
-            }
-            Err(_) => {
-                return true;
-            }
+    for i in 0..n {
+        let Ok(e) = read_entry(s, at) else {
+            return true;
+        };
+        let shares = e.shares;
+        let remainder = e.remainder;
+        let length = e.size;
+        if !prefix_fits(buffer, size, s, shares, remainder, length) {
+            return false;
         }
-        i += 1;
+        size = extend_key(buffer, size, s, shares, remainder, length);
+        at = e.end;
     }
     true
 }
@@ -103,10 +87,7 @@ pub fn key_is_lawful(buffer: &[u8], size: usize) -> bool
     if buffer.len() < size {
         return false;
     }
-    match slash(&buffer[..size]) {
-        Ok(_) => true,
-        Err(_) => false,
-    }
+    slash(&buffer[..size]).is_ok()
 }
 
 // Whether the key in a buffer is greater than the last key.
@@ -119,11 +100,7 @@ pub fn key_rises(last: &[u8], last_size: usize, buffer: &[u8], size: usize) -> b
     if buffer.len() < size {
         return false;
     }
-    match compare(&last[..last_size], &buffer[..size]) {
-        Ordering::Less => true,
-        Ordering::Equal => false,
-        Ordering::Greater => false,
-    }
+    compare(&last[..last_size], &buffer[..size]).is_lt()
 }
 
 // The key in the buffer becomes the last key, unless it is longer than the buffer.

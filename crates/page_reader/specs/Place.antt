@@ -1,6 +1,8 @@
 -- What the readers at a place of a slice answer. The bytes of a slice s from place `at` on are `drop at s`.
 use Rattle.std.specs.Prelude.{ℕ, zero, suc, ◌+◌, ◌≤◌, ◌<◌, ◌≡◌, List, [], ◌∷◌, length, take, drop, Result, Ok, Err}
 use Rattle.std.proofs.Math.Option.{Option, none, some}
+use Rattle.answer.specs.declared.Refusal.{Refusal}
+use Rattle.answer.specs.declared.Refusal.TheVariants.{EndsEarly as Early, Departs as Departing}
 use Rattle.limits.specs.Limits.{numbers}
 use Rattle.value.specs.Value.{digest_length, value_in}
 use Rattle.page.specs.Reading.{Read, read, ends_early, departs, Reader, ◌>>=◌, ◌>>◌, pure, exactly, any_bytes, times}
@@ -21,6 +23,11 @@ pub record Reads {A : Type 0} (p : Reader A) (s : List ℕ) (at : ℕ) (a : A) (
 abbrev pub read_stop : {A : Type 0} → Stop → Read A
 read_stop EndsEarly = ends_early
 read_stop Departs = departs
+
+-- The refusal of a page that cannot be read.
+abbrev pub refusal_of : Stop → Refusal
+refusal_of EndsEarly = Early
+refusal_of Departs = Departing
 
 -- Fixed bytes, and then what p reads.
 abbrev pub after : {A : Type 0} → List ℕ → Reader A → Reader A

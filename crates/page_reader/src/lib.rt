@@ -8,8 +8,9 @@ ghost use Rattle.value.specs.Value.{digest_length, digest_in, raw, dag_cbor, val
 ghost use Rattle.page.specs.Reading.{exactly, any_bytes};
 ghost use Rattle.page.specs.Number.{one_byte, two_bytes, number};
 ghost use Rattle.page.specs.Page.{link, gap, value};
-ghost use Rattle.page_reader.specs.Place.{read_stop, after, ExactIs, NumberIs, LinkIs, value_end, GapIs, empty_gap_to_value, EntryEndIs, EntryIs, LocatedEndIs, LocatedIs, page_start, EntriesIs, PageIs};
+ghost use Rattle.page_reader.specs.Place.{read_stop, refusal_of, after, ExactIs, NumberIs, LinkIs, value_end, GapIs, empty_gap_to_value, EntryEndIs, EntryIs, LocatedEndIs, LocatedIs, page_start, EntriesIs, PageIs};
 
+use answer::Refusal;
 use bytestring::same_bytes;
 use page::{
     AFTER_CODEC, ARRAY, BEFORE_CODEC, BEFORE_ENTRIES, BEFORE_GAP, BEFORE_LEFT, BEFORE_REMAINDER,
@@ -42,6 +43,18 @@ const EMPTY_GAP_TO_RAW: [u8; 14] = [
 pub enum Stop {
     EndsEarly,
     Departs,
+}
+
+// The refusal of a page that cannot be read.
+impl From<Stop> for Refusal {
+    ghost from_gives = { λ stop refusal. refusal ≡ refusal_of stop };
+
+    fn from(stop: Stop) -> Refusal {
+        match stop {
+            Stop::EndsEarly => Refusal::EndsEarly,
+            Stop::Departs => Refusal::Departs,
+        }
+    }
 }
 
 // Where the parts of an entry stand: its key's remainder, which has size bytes; the digest of the link of the gap after it, or 0;
@@ -151,7 +164,8 @@ fn read_number(s: &[u8], at: usize, kind: u8) -> Result<(usize, usize), Stop>
     }
 }
 
-// These bytes, and then a number.
+// These bytes, and then a number. The four readers of this kind stay apart: each is two lines, and one that took the reader of what follows
+// as a closure would be longer, with a contract that says what the closure answers.
 fn read_number_after(s: &[u8], at: usize, bytes: &[u8], kind: u8) -> Result<(usize, usize), Stop>
     ensures { NumberIs (after bytes.now (number kind)) s.now at result }
 {

@@ -1,8 +1,9 @@
 -- How many bytes numbers, gaps, entries and pages take.
 use Prim.Native.Nat.{ℕ, ◌+◌, ◌-◌, ◌≤◌, ◌<◌}
 use mathlib.Core.Path.{◌≡◌, refl, ap, ◌∙◌}
-use mathlib.Core.Bool.{Bool, true, false}
+use mathlib.Core.Bool.{Bool}
 use mathlib.Core.Option.{Option, none, some}
+use Rattle.std.specs.Prelude.{Some, None, is_some, IfSome, Option as OptionOf}
 use mathlib.Core.List.{List, ◌++◌, append_assoc}
 use native.Mathlib.Omega.{arith}
 use lib.ListN.{length, drop, length-append, length-drop}
@@ -13,7 +14,7 @@ use Rattle.key.proofs.Laws.{shared_le_right}
 use Rattle.page.specs.Reading.{concat}
 use Rattle.page.specs.Number.{plain_number, array, number_bytes}
 use Rattle.page.specs.Page.{link_bytes, gap_bytes, value_bytes, entry_bytes, RawPage, page_bytes}
-use Rattle.page_writer.specs.Front.{number_length, link_if, gap_length, entry_start_bytes, entry_start_length, entry_end_bytes, entry_end_length, entry_after, entry_length, page_start_bytes, page_end_bytes}
+use Rattle.page_writer.specs.Front.{number_length, link_held, gap_length, entry_start_bytes, entry_start_length, entry_end_bytes, entry_end_length, entry_after, entry_length, page_start_bytes, page_end_bytes}
 use Rattle.page.proofs.Numbers.{bytes_first, bytes_one, bytes_two}
 
 -- ---- numbers
@@ -44,40 +45,44 @@ pub length_value : (val : List ℕ) → length val ≡ 33 → length (value_byte
 unfolding value_bytes
 length_value val h = omega (arith, length-drop 1 val)
 
-pub length_gap : (linked : Bool) (digest : List ℕ) → length digest ≡ 32 → length (gap_bytes (link_if linked digest)) ≡ gap_length linked
+-- a link that is held has a digest's length
+abbrev pub Whole : OptionOf (List ℕ) → Type 0
+Whole link = IfSome link (λ digest. length digest ≡ 32)
+
+pub length_gap : (link : OptionOf (List ℕ)) → Whole link → length (gap_bytes (link_held link)) ≡ gap_length (is_some link)
 unfolding gap_bytes
-length_gap true digest h = length_link digest h
-length_gap false digest h = refl
+length_gap (Some digest) h = length_link digest h
+length_gap None h = refl
 
 -- ---- entries
 pub length_start : (shares : ℕ) (remainder : List ℕ) → length (entry_start_bytes shares remainder) ≡ entry_start_length shares (length remainder)
 unfolding entry_start_bytes
 length_start shares remainder = simp (length-append, length_number) (omega arith)
 
-pub length_end : (linked : Bool) (digest val : List ℕ) → length digest ≡ 32 → length val ≡ 33 → length (entry_end_bytes (link_if linked digest) val) ≡ entry_end_length linked
+pub length_end : (link : OptionOf (List ℕ)) (val : List ℕ) → Whole link → length val ≡ 33 → length (entry_end_bytes (link_held link) val) ≡ entry_end_length (is_some link)
 unfolding entry_end_bytes
-length_end linked digest val hd hv = simp (length-append, length_gap linked digest hd, length_value val hv) (omega arith)
+length_end link val hd hv = simp (length-append, length_gap link hd, length_value val hv) (omega arith)
 
 pub entry_parts : (previous key : List ℕ) (after : Option (List ℕ)) (val : List ℕ)
     → entry_bytes (entry_after previous key after val) ≡ entry_start_bytes (shared previous key) (drop (shared previous key) key) ++ entry_end_bytes after val
 unfolding entry_bytes entry_after entry_start_bytes entry_end_bytes
 entry_parts previous key after val = simp append_assoc
 
-pub length_entry : (previous key : List ℕ) (linked : Bool) (digest val : List ℕ) → length digest ≡ 32 → length val ≡ 33
-    → length (entry_bytes (entry_after previous key (link_if linked digest) val)) ≡ entry_length previous key linked
-length_entry previous key linked digest val hd hv =
-    ap length (entry_parts previous key (link_if linked digest) val)
-    ∙ length-append (entry_start_bytes (shared previous key) (drop (shared previous key) key)) (entry_end_bytes (link_if linked digest) val)
-    ∙ rw (length_start (shared previous key) (drop (shared previous key) key), length_end linked digest val hd hv, length-drop (shared previous key) key)
+pub length_entry : (previous key : List ℕ) (link : OptionOf (List ℕ)) (val : List ℕ) → Whole link → length val ≡ 33
+    → length (entry_bytes (entry_after previous key (link_held link) val)) ≡ entry_length previous key (is_some link)
+length_entry previous key link val hd hv =
+    ap length (entry_parts previous key (link_held link) val)
+    ∙ length-append (entry_start_bytes (shared previous key) (drop (shared previous key) key)) (entry_end_bytes (link_held link) val)
+    ∙ rw (length_start (shared previous key) (drop (shared previous key) key), length_end link val hd hv, length-drop (shared previous key) key)
 
 -- ---- pages
 pub length_page_start : (count : ℕ) → length (page_start_bytes count) ≡ 3 + number_length count
 unfolding page_start_bytes
 length_page_start count = omega (arith, length_number array count)
 
-pub length_page_end : (linked : Bool) (digest : List ℕ) → length digest ≡ 32 → length (page_end_bytes (link_if linked digest)) ≡ 2 + gap_length linked
+pub length_page_end : (link : OptionOf (List ℕ)) → Whole link → length (page_end_bytes (link_held link)) ≡ 2 + gap_length (is_some link)
 unfolding page_end_bytes
-length_page_end linked digest h = omega (arith, length_gap linked digest h)
+length_page_end link h = omega (arith, length_gap link h)
 
 least_number : (n : ℕ) → 1 ≤ number_length n
 unfolding number_length number_bytes

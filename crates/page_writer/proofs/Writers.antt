@@ -1,7 +1,7 @@
 -- What the writers write, in the facts that the code leaves.
 use Prim.Native.Nat.{ℕ, ◌+◌, ◌-◌, ◌/◌, ◌%◌, ◌≤◌, ◌<◌}
 use mathlib.Core.Path.{◌≡◌, refl, sym, ap, ◌∙◌}
-use mathlib.Core.Bool.{Bool, true, false}
+use Rattle.std.specs.Prelude.{Some, None, is_some, Option as OptionOf}
 use mathlib.Core.List.{List, [], ◌∷◌, ◌++◌, append_assoc}
 use native.Mathlib.Omega.{arith}
 use lib.ListN.{length, get_or, take, drop, length-append, length-drop}
@@ -12,10 +12,10 @@ use Rattle.key.specs.Key.{shared}
 use Rattle.value.specs.Value.{value_codec, value_digest}
 use Rattle.page.specs.Number.{plain_number, byte_string, number_bytes}
 use Rattle.page.specs.Page.{link_head, link_bytes, null, gap_bytes, value_bytes, entry_bytes}
-use Rattle.page_writer.specs.Front.{number_length, link_if, gap_length, entry_start_bytes, entry_start_length, entry_end_bytes, entry_end_length, entry_after, entry_length}
+use Rattle.page_writer.specs.Front.{number_length, link_held, gap_length, entry_start_bytes, entry_start_length, entry_end_bytes, entry_end_length, entry_after, entry_length}
 use Rattle.page.proofs.Numbers.{bytes_first, bytes_one, bytes_two}
 use Rattle.page.proofs.Pages.{before_remainder, before_shares, before_gap, before_value}
-use Rattle.page_writer.proofs.Sizes.{length_first, length_one, length_two, length_number, length_gap, length_start, entry_parts}
+use Rattle.page_writer.proofs.Sizes.{length_first, length_one, length_two, length_number, Whole, length_gap, length_start, entry_parts}
 
 -- ---- numbers
 module _ (kind n : ℕ) (o xs : List ℕ) where
@@ -35,15 +35,15 @@ module _ (kind n : ℕ) (o xs : List ℕ) where
       (rw (b, high) at e ∙ rw (bytes_two kind n h), sym (length_two n h))
 
 -- ---- gaps and values
-module _ (linked : Bool) (digest o xs : List ℕ) where
+module _ (link : OptionOf (List ℕ)) (o xs : List ℕ) where
   abbrev GapWritten : ℕ → Type 0
-  GapWritten r = (xs ≡ front (gap_bytes (link_if linked digest)) o) × (r ≡ gap_length linked)
+  GapWritten r = (xs ≡ front (gap_bytes (link_held link)) o) × (r ≡ gap_length (is_some link))
 
-  pub link_written : linked ≡ true → xs ≡ front (link_bytes digest) o → GapWritten 41
+  pub link_written : (digest : List ℕ) → link ≡ Some digest → xs ≡ front (link_bytes digest) o → GapWritten 41
   unfolding gap_bytes
-  link_written e w = rw e (w, refl)
+  link_written digest e w = rw e (w, refl)
 
-  pub null_written : linked ≡ false → xs ≡ front (null ∷ []) o → GapWritten 1
+  pub null_written : link ≡ None → xs ≡ front (null ∷ []) o → GapWritten 1
   unfolding gap_bytes
   null_written e w = rw e (w, refl)
 
@@ -55,14 +55,14 @@ value_written o val xs ys h e f =
     onto o (link_head (value_codec val)) (value_digest val) 9 xs ys e refl (f ∙ rw all)
 
 -- ---- entries
-pub end_written : (o digest val xs ys zs : List ℕ) (linked : Bool) (at : ℕ) → length digest ≡ 32
-    → xs ≡ front (before_gap ++ gap_bytes (link_if linked digest)) o → at ≡ 2 + gap_length linked
+pub end_written : (o val xs ys zs : List ℕ) (link : OptionOf (List ℕ)) (at : ℕ) → Whole link
+    → xs ≡ front (before_gap ++ gap_bytes (link_held link)) o → at ≡ 2 + gap_length (is_some link)
     → ys ≡ front before_value (lent at xs) → zs ≡ front (value_bytes val) (lent (at + 2) (back at xs ys))
-    → back (at + 2) (back at xs ys) zs ≡ front (entry_end_bytes (link_if linked digest) val) o
+    → back (at + 2) (back at xs ys) zs ≡ front (entry_end_bytes (link_held link) val) o
 unfolding entry_end_bytes
-end_written o digest val xs ys zs linked at h e ea f g =
-    let gap : List ℕ = before_gap ++ gap_bytes (link_if linked digest) in
-    let l : length gap ≡ at = omega (arith, length_gap linked digest h) in
+end_written o val xs ys zs link at h e ea f g =
+    let gap : List ℕ = before_gap ++ gap_bytes (link_held link) in
+    let l : length gap ≡ at = omega (arith, length_gap link h) in
     let k : length (gap ++ before_value) ≡ at + 2 = omega (arith, length-append gap before_value) in
     onto o (gap ++ before_value) (value_bytes val) (at + 2) (back at xs ys) zs (onto o gap before_value at xs ys e l f) k g
     ∙ ap (λ (p : List ℕ). front p o) (append_assoc gap before_value (value_bytes val))
@@ -90,17 +90,17 @@ module _ (key : List ℕ) (shares : ℕ) (k : shares ≤ length key) where
       onto o (head ++ part) (before_shares ++ number_bytes plain_number shares) (at + size) (back at xs ys) zs (onto o head part at xs ys e l (f ∙ rw part_is)) m g
       ∙ ap (λ (p : List ℕ). front p o) whole
 
-module _ (previous key : List ℕ) (linked : Bool) (shares : ℕ) (e : shares ≡ shared previous key) where
-  pub entry_parts_length : entry_start_length shares (length key - shares) + entry_end_length linked ≡ entry_length previous key linked
+module _ (previous key : List ℕ) (link : OptionOf (List ℕ)) (shares : ℕ) (e : shares ≡ shared previous key) where
+  pub entry_parts_length : entry_start_length shares (length key - shares) + entry_end_length (is_some link) ≡ entry_length previous key (is_some link)
   entry_parts_length = rw e
 
-  pub entry_written : (o digest val xs ys : List ℕ) (at : ℕ)
+  pub entry_written : (o val xs ys : List ℕ) (at : ℕ)
       → xs ≡ front (entry_start_bytes shares (drop shares key)) o → at ≡ entry_start_length shares (length key - shares)
-      → ys ≡ front (entry_end_bytes (link_if linked digest) val) (lent at xs)
-      → back at xs ys ≡ front (entry_bytes (entry_after previous key (link_if linked digest) val)) o
-  entry_written o digest val xs ys at f ea g =
+      → ys ≡ front (entry_end_bytes (link_held link) val) (lent at xs)
+      → back at xs ys ≡ front (entry_bytes (entry_after previous key (link_held link) val)) o
+  entry_written o val xs ys at f ea g =
       let start : List ℕ = entry_start_bytes shares (drop shares key) in
       let l : length start ≡ at = length_start shares (drop shares key) ∙ rw (length-drop shares key) (sym ea) in
-      let whole : start ++ entry_end_bytes (link_if linked digest) val ≡ entry_bytes (entry_after previous key (link_if linked digest) val) =
-      rw e (sym (entry_parts previous key (link_if linked digest) val)) in
-      onto o start (entry_end_bytes (link_if linked digest) val) at xs ys f l g ∙ ap (λ (p : List ℕ). front p o) whole
+      let whole : start ++ entry_end_bytes (link_held link) val ≡ entry_bytes (entry_after previous key (link_held link) val) =
+      rw e (sym (entry_parts previous key (link_held link) val)) in
+      onto o start (entry_end_bytes (link_held link) val) at xs ys f l g ∙ ap (λ (p : List ℕ). front p o) whole

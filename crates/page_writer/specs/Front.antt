@@ -1,5 +1,5 @@
 -- What the writers write at the front of an output, and how many bytes that takes.
-use Rattle.std.specs.Prelude.{ℕ, ◌+◌, ◌-◌, Bool, cond, List, [], ◌∷◌, ◌++◌, length, drop}
+use Rattle.std.specs.Prelude.{ℕ, ◌+◌, ◌-◌, Bool, cond, List, [], ◌∷◌, ◌++◌, length, drop, Some, None, Option as OptionOf}
 use Rattle.std.proofs.Math.Option.{Option, none, some}
 use Rattle.key.specs.Key.{shared}
 use Rattle.page.specs.Number.{plain_number, byte_string, array, number_bytes}
@@ -9,9 +9,10 @@ use Rattle.page.specs.Page.{gap_bytes, value_bytes, RawEntry}
 unfoldable pub number_length : ℕ → ℕ
 number_length n = length (number_bytes plain_number n)
 
--- A gap's link as the code holds it: whether there is one, and its digest.
-abbrev pub link_if : Bool → List ℕ → Option (List ℕ)
-link_if linked digest = cond linked (some digest) none
+-- A gap's link, which the code holds as its digest, if there is one.
+abbrev pub link_held : OptionOf (List ℕ) → Option (List ℕ)
+link_held (Some digest) = some digest
+link_held None = none
 
 -- How many bytes a gap takes.
 abbrev pub gap_length : Bool → ℕ

@@ -2,12 +2,12 @@
 // functions are for the crates above and no public calls.
 #![tactic(auto)]
 
-ghost use Rattle.std.specs.Prelude.{◌≡◌, ◌++◌, ◌+◌, ◌-◌, ◌≤◌, ◌<◌, length, drop};
+ghost use Rattle.std.specs.Prelude.{◌≡◌, ◌++◌, ◌+◌, ◌-◌, ◌≤◌, ◌<◌, length, drop, is_some};
 ghost use Rattle.limits.specs.Limits.{numbers, longest_key};
 ghost use Rattle.bytestring.specs.Bytes.{front};
 ghost use Rattle.page.specs.Number.{number_bytes};
 ghost use Rattle.page.specs.Page.{link_bytes, gap_bytes, value_bytes, entry_bytes};
-ghost use Rattle.page_writer.specs.Front.{number_length, link_if, gap_length, entry_start_bytes, entry_start_length, entry_end_bytes, entry_end_length, entry_length, entry_after, page_start_bytes, page_end_bytes};
+ghost use Rattle.page_writer.specs.Front.{number_length, link_held, gap_length, entry_start_bytes, entry_start_length, entry_end_bytes, entry_end_length, entry_length, entry_after, page_start_bytes, page_end_bytes};
 
 use bytestring::write_bytes;
 use page::{
@@ -90,29 +90,32 @@ fn gap_length(linked: bool) -> usize
 }
 
 // A gap: the link of the page in it, or null.
-fn write_gap(out: &mut [u8], linked: bool, digest: Digest) -> usize
-    requires { gap_length linked ≤ length out.old }
-    ensures output { out.new ≡ front (gap_bytes (link_if linked digest)) out.old }
-    ensures count { result ≡ gap_length linked }
+fn write_gap(out: &mut [u8], link: Option<Digest>) -> usize
+    requires { gap_length (is_some link) ≤ length out.old }
+    ensures output { out.new ≡ front (gap_bytes (link_held link)) out.old }
+    ensures count { result ≡ gap_length (is_some link) }
 {
-    if linked {
-        write_link(out, digest);
-        41
-    } else {
-        write_bytes(out, &[NULL]);
-        1
+    match link {
+        Some(digest) => {
+            write_link(out, digest);
+            41
+        }
+        None => {
+            write_bytes(out, &[NULL]);
+            1
+        }
     }
 }
 
 // These bytes, and then a gap.
-fn write_gap_after(out: &mut [u8], bytes: &[u8], linked: bool, digest: Digest) -> usize
-    requires { length bytes.now + gap_length linked ≤ length out.old }
-    ensures output { out.new ≡ front (bytes.now ++ gap_bytes (link_if linked digest)) out.old }
-    ensures count { result ≡ length bytes.now + gap_length linked }
+fn write_gap_after(out: &mut [u8], bytes: &[u8], link: Option<Digest>) -> usize
+    requires { length bytes.now + gap_length (is_some link) ≤ length out.old }
+    ensures output { out.new ≡ front (bytes.now ++ gap_bytes (link_held link)) out.old }
+    ensures count { result ≡ length bytes.now + gap_length (is_some link) }
 {
     let at = bytes.len();
     write_bytes(out, bytes);
-    at + write_gap(&mut out[at..], linked, digest)
+    at + write_gap(&mut out[at..], link)
 }
 
 // The start of an entry: its key without the bytes that it shares with the key before.
@@ -129,12 +132,12 @@ fn write_entry_start(out: &mut [u8], shares: usize, key: &[u8]) -> usize
 }
 
 // The end of an entry: the gap after it, and its value.
-fn write_entry_end(out: &mut [u8], linked: bool, link: Digest, value: Value) -> usize
-    requires { entry_end_length linked ≤ length out.old }
-    ensures output { out.new ≡ front (entry_end_bytes (link_if linked link) value) out.old }
-    ensures count { result ≡ entry_end_length linked }
+fn write_entry_end(out: &mut [u8], link: Option<Digest>, value: Value) -> usize
+    requires { entry_end_length (is_some link) ≤ length out.old }
+    ensures output { out.new ≡ front (entry_end_bytes (link_held link) value) out.old }
+    ensures count { result ≡ entry_end_length (is_some link) }
 {
-    let at = write_gap_after(out, &BEFORE_GAP, linked, link);
+    let at = write_gap_after(out, &BEFORE_GAP, link);
     write_bytes(&mut out[at..], &BEFORE_VALUE);
     let next = at + 2;
     write_value(&mut out[next..], value);
@@ -156,17 +159,16 @@ pub fn write_entry(
     out: &mut [u8],
     previous: &[u8],
     key: &[u8],
-    linked: bool,
-    link: Digest,
+    link: Option<Digest>,
     value: Value,
 ) -> usize
-    requires { (length key.now ≤ longest_key) × (entry_length previous.now key.now linked ≤ length out.old) }
-    ensures output { out.new ≡ front (entry_bytes (entry_after previous.now key.now (link_if linked link) value)) out.old }
-    ensures count { result ≡ entry_length previous.now key.now linked }
+    requires { (length key.now ≤ longest_key) × (entry_length previous.now key.now (is_some link) ≤ length out.old) }
+    ensures output { out.new ≡ front (entry_bytes (entry_after previous.now key.now (link_held link) value)) out.old }
+    ensures count { result ≡ entry_length previous.now key.now (is_some link) }
 {
     let shares = key_order::shared_count(previous, key);
     let at = write_entry_start(out, shares, key);
-    at + write_entry_end(&mut out[at..], linked, link, value)
+    at + write_entry_end(&mut out[at..], link, value)
 }
 
 // How many bytes the start of a page takes.
@@ -193,10 +195,10 @@ pub fn page_end_length(linked: bool) -> usize
 }
 
 // The end of a page, which follows its entries.
-pub fn write_page_end(out: &mut [u8], linked: bool, link: Digest) -> usize
-    requires { 2 + gap_length linked ≤ length out.old }
-    ensures output { out.new ≡ front (page_end_bytes (link_if linked link)) out.old }
-    ensures count { result ≡ 2 + gap_length linked }
+pub fn write_page_end(out: &mut [u8], link: Option<Digest>) -> usize
+    requires { 2 + gap_length (is_some link) ≤ length out.old }
+    ensures output { out.new ≡ front (page_end_bytes (link_held link)) out.old }
+    ensures count { result ≡ 2 + gap_length (is_some link) }
 {
-    write_gap_after(out, &BEFORE_LEFT, linked, link)
+    write_gap_after(out, &BEFORE_LEFT, link)
 }

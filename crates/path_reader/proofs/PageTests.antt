@@ -15,7 +15,7 @@ use Rattle.fips180.specs.Hash.{sha256}
 use Rattle.page.specs.Reading.{read, times}
 use Rattle.page.specs.Page.{RawEntry, RawPage, page_bytes, entry, page}
 use Rattle.page.proofs.Readers.{read_sub}
-use Rattle.page_reader.specs.Place.{read_stop, link_at, PageHere, PageIs}
+use Rattle.page_reader.specs.Place.{read_stop, refusal_of, link_at, PageHere, PageIs}
 use Rattle.page_reader.specs.declared.Stop.{Stop}
 use Rattle.page_reader.specs.declared.Stop.TheVariants.{EndsEarly, Departs}
 use Rattle.page_reader.specs.declared.PageAt.{PageAt}
@@ -23,12 +23,12 @@ use Rattle.page_keys.proofs.Entries.{read_stop≢read}
 use Rattle.tree.specs.Judge.{due, all_lawful, rising}
 use Rattle.tree.specs.OnePage.{prefixes_of, records_in}
 use Rattle.path.specs.Verify.{sought_in, stopped, unless, on_page, page_tests, go_on, judge_pages}
-use Rattle.path_reader.specs.Judging.{sought_by, SearchWithin, RowJudged, JudgesEntries, refusal_of, JudgesPrefixes, said_in_gap, said_by, from_page, VerdictWithin, JudgesPage}
+use Rattle.path_reader.specs.Judging.{sought_by, SearchWithin, RowJudged, JudgesEntries, JudgesPrefixes, said_in_gap, said_by, from_page, SaidWithin, JudgesPage}
 use Rattle.path_reader.specs.declared.entries.Search.{Search}
 use Rattle.path_reader.specs.declared.entries.Search.TheVariants.{On, Value, Gap}
 use Rattle.path_reader.specs.declared.entries.EntriesJudged.{EntriesJudged}
-use Rattle.path_reader.specs.declared.pages.PageVerdict.{PageVerdict}
-use Rattle.path_reader.specs.declared.pages.PageVerdict.TheVariants.{Absent, Linked, Refused}
+use Rattle.path_reader.specs.declared.pages.PageSays.{PageSays}
+use Rattle.path_reader.specs.declared.pages.PageSays.TheVariants.{Absent, Linked}
 use Rattle.page_reader.proofs.Spelling.{page_here, page_ends, page_part, page_first}
 
 -- ---- a page that was read
@@ -78,12 +78,12 @@ unfolding said_in_gap
 gap_linked zero end f = absurd (f refl)
 gap_linked (suc before) end f = refl
 
-pub said_is : (search x : Search) (end : ℕ) → search ≡ x → (r : PageVerdict) → r ≡ said_by x end → r ≡ said_by search end
+pub said_is : (search x : Search) (end : ℕ) → search ≡ x → (r : PageSays) → r ≡ said_by x end → r ≡ said_by search end
 said_is search x end q r e = rw q e
 
 -- what the path says from there on
 from_said : (path key : List ℕ) (depth end : ℕ) (search : Search)
-    → go_on (sought_by path search) (drop end path) (λ next. judge_pages depth key next end (drop end path)) ≡ from_page path key depth (said_by search end)
+    → go_on (sought_by path search) (drop end path) (λ next. judge_pages depth key next end (drop end path)) ≡ from_page path key depth (Ok (said_by search end))
 unfolding link_at go_on said_in_gap
 from_said path key depth end (On zero) = refl
 from_said path key depth end (On (suc before)) = refl
@@ -91,7 +91,7 @@ from_said path key depth end (Value value) = refl
 from_said path key depth end (Gap zero) = refl
 from_said path key depth end (Gap (suc before)) = refl
 
-said_within : (path : List ℕ) (end : ℕ) (search : Search) → SearchWithin path search → VerdictWithin path (said_by search end)
+said_within : (path : List ℕ) (end : ℕ) (search : Search) → SearchWithin path search → SaidWithin path (Ok (said_by search end))
 unfolding said_in_gap
 said_within path end (On zero) h = tt
 said_within path end (On (suc before)) h = h (omega arith)
@@ -108,7 +108,7 @@ path_stopped path at key digest depth EndsEarly e = rw e
 path_stopped path at key digest depth Departs e = rw e
 
 module _ (path : List ℕ) (at : ℕ) (key digest : List ℕ) (got : Result PageAt Stop) (w : PageIs path at got) where
-  pub page_stopped : (stop : Stop) → got ≡ Err stop → (r : Refusal) → r ≡ refusal_of stop → JudgesPage path at key digest (Refused r)
+  pub page_stopped : (stop : Stop) → got ≡ Err stop → (r : Refusal) → r ≡ refusal_of stop → JudgesPage path at key digest (Err r)
   page_stopped stop is r e = rw e (record { says = λ depth. path_stopped path at key digest depth stop (subst (PageIs path at) is w); within = tt })
 
   module _ (slice : Bytes path) (p : PageAt) (is : got ≡ Ok p) where
@@ -128,7 +128,7 @@ module _ (path : List ℕ) (at : ℕ) (key digest : List ℕ) (got : Result Page
     unfolding judge_pages on_page
     from_page_lem depth = rw here.whole.reads
 
-    refused : (r : Refusal) → due (page_tests digest raw) ≡ some r → JudgesPage path at key digest (Refused r)
+    refused : (r : Refusal) → due (page_tests digest raw) ≡ some r → JudgesPage path at key digest (Err r)
     unfolding unless
     refused r e = record { says = λ depth. from_page_lem depth ∙ rw e; within = tt }
 
@@ -143,7 +143,7 @@ module _ (path : List ℕ) (at : ℕ) (key digest : List ℕ) (got : Result Page
       unfolding JudgesPrefixes
       prefixes_are = prefixes raw (drop p.end path) here.whole.reads row.prefixes
 
-      pub wrong_prefix : not right ≡ true → JudgesPage path at key digest (Refused WrongPrefix)
+      pub wrong_prefix : not right ≡ true → JudgesPage path at key digest (Err WrongPrefix)
       unfolding page_tests due
       wrong_prefix f = refused WrongPrefix (rw (← prefixes_are, not-true right f))
 
@@ -151,7 +151,7 @@ module _ (path : List ℕ) (at : ℕ) (key digest : List ℕ) (got : Result Page
         rights : prefixes_of [] es ≡ true
         rights = sym prefixes_are ∙ not-false right f
 
-        pub unlawful_key : not judged.lawful ≡ true → JudgesPage path at key digest (Refused UnlawfulKey)
+        pub unlawful_key : not judged.lawful ≡ true → JudgesPage path at key digest (Err UnlawfulKey)
         unfolding page_tests due
         unlawful_key g = refused UnlawfulKey (rw (rights, ← row.lawful, not-true judged.lawful g))
 
@@ -162,7 +162,7 @@ module _ (path : List ℕ) (at : ℕ) (key digest : List ℕ) (got : Result Page
           rising_is : judged.rising ≡ rising (records_in [] es)
           rising_is = row.rising rights lawfuls
 
-          pub not_rising : not judged.rising ≡ true → JudgesPage path at key digest (Refused KeysNotRising)
+          pub not_rising : not judged.rising ≡ true → JudgesPage path at key digest (Err KeysNotRising)
           unfolding page_tests due
           not_rising h = refused KeysNotRising (rw (rights, lawfuls, ← rising_is, not-true judged.rising h))
 
@@ -174,7 +174,7 @@ module _ (path : List ℕ) (at : ℕ) (key digest : List ℕ) (got : Result Page
             same_is : equal (sha256 (page_bytes raw)) digest ≡ same
             same_is = rw (page_part slice here, ← hash) (sym compared)
 
-            pub not_due : not same ≡ true → JudgesPage path at key digest (Refused PageNotDue)
+            pub not_due : not same ≡ true → JudgesPage path at key digest (Err PageNotDue)
             unfolding page_tests due
             not_due q = refused PageNotDue (rw (rights, lawfuls, rises, same_is, not-true same q))
 
@@ -186,7 +186,7 @@ module _ (path : List ℕ) (at : ℕ) (key digest : List ℕ) (got : Result Page
             unfolding sought_in
             sought = rw (← page_first slice here) (row.sought lawfuls)
 
-            pub page_said : not same ≡ false → (r : PageVerdict) → r ≡ said_by judged.search p.end → JudgesPage path at key digest r
+            pub page_said : not same ≡ false → (r : PageSays) → r ≡ said_by judged.search p.end → JudgesPage path at key digest (Ok r)
             unfolding unless
             page_said q r e = rw e (record {
               says = λ depth. from_page_lem depth ∙ rw (none_due q, sought, ← page_ends slice here) (from_said path key depth p.end judged.search);

@@ -17,8 +17,8 @@ use Rattle.key.proofs.SlashLaws.{slash_done, slash_refused}
 use Rattle.tree.specs.Judge.{due}
 use Rattle.path.specs.Verify.{absent, present, unless, at_end, judge_pages, verify_verdict, verify_answer}
 use Rattle.path_reader.specs.Judging.{from_page, JudgesPage, end_answer}
-use Rattle.path_reader.specs.declared.pages.PageVerdict.{PageVerdict}
-use Rattle.path_reader.specs.declared.pages.PageVerdict.TheVariants.{Present, Absent, Linked, Refused as RefusedPage}
+use Rattle.path_reader.specs.declared.pages.PageSays.{PageSays}
+use Rattle.path_reader.specs.declared.pages.PageSays.TheVariants.{Present, Absent, Linked}
 
 -- ---- the search has ended
 module _ (path : List ℕ) (end place codec : ℕ) where
@@ -63,35 +63,35 @@ module _ (path key root digest : List ℕ) (at level : ℕ) (so_far : PathSoFar 
         sym (ap (verify_answer path) so_far ∙ rw (none_left, drop_of_length-le path l))
 
   -- the next page
-  module _ (h : level < deepest) (got : PageVerdict) (w : JudgesPage path at key digest got) where
-    page_next : (said : PageVerdict) → got ≡ said → judge_pages deepest key root 0 path ≡ from_page path key (deepest - (level + 1)) said
+  module _ (h : level < deepest) (got : Result PageSays Refusal) (w : JudgesPage path at key digest got) where
+    page_next : (said : Result PageSays Refusal) → got ≡ said → judge_pages deepest key root 0 path ≡ from_page path key (deepest - (level + 1)) said
     unfolding PathSoFar
     page_next said is =
         let one_less : deepest - level ≡ suc (deepest - (level + 1)) = omega arith in
         so_far ∙ rw (one_less, ← is) (w.says (deepest - (level + 1)))
 
-    pub path_refused : (r : Refusal) → got ≡ RefusedPage r → Err r ≡ verify_answer path (judge_pages deepest key root 0 path)
+    pub path_refused : (r : Refusal) → got ≡ Err r → Err r ≡ verify_answer path (judge_pages deepest key root 0 path)
     unfolding verify_answer
-    path_refused r is = sym (ap (verify_answer path) (page_next (RefusedPage r) is))
+    path_refused r is = sym (ap (verify_answer path) (page_next (Err r) is))
 
     module _ (place end : ℕ) where
-      pub value_within : length path ≤ longest → got ≡ Present place end → place ≤ longest
-      value_within short is = let in_path = (subst (λ (g : PageVerdict). JudgesPage path at key digest g) is w).within in omega arith
+      pub value_within : length path ≤ longest → got ≡ Ok (Present place end) → place ≤ longest
+      value_within short is = let in_path = (subst (λ (g : Result PageSays Refusal). JudgesPage path at key digest g) is w).within in omega arith
 
-      pub path_present : got ≡ Present place end → (codec : ℕ) → codec ≡ codec_in path place → (r : Result (ℕ × ℕ) Refusal) → r ≡ end_answer place codec (drop end path)
+      pub path_present : got ≡ Ok (Present place end) → (codec : ℕ) → codec ≡ codec_in path place → (r : Result (ℕ × ℕ) Refusal) → r ≡ end_answer place codec (drop end path)
           → r ≡ verify_answer path (judge_pages deepest key root 0 path)
-      path_present is codec f r e = e ∙ rw f (present_ends path place (drop end path)) ∙ sym (ap (verify_answer path) (page_next (Present place end) is))
+      path_present is codec f r e = e ∙ rw f (present_ends path place (drop end path)) ∙ sym (ap (verify_answer path) (page_next (Ok (Present place end)) is))
 
-      pub path_linked : got ≡ Linked place end → (d : List ℕ) → (place + digest_length ≤ length path → d ≡ digest_in path place)
+      pub path_linked : got ≡ Ok (Linked place end) → (d : List ℕ) → (place + digest_length ≤ length path → d ≡ digest_in path place)
           → PathSoFar path key root d end (level + 1)
       unfolding PathSoFar
       path_linked is d e =
-          let in_path = (subst (λ (g : PageVerdict). JudgesPage path at key digest g) is w).within in
-          page_next (Linked place end) is ∙ rw (e in_path)
+          let in_path = (subst (λ (g : Result PageSays Refusal). JudgesPage path at key digest g) is w).within in
+          page_next (Ok (Linked place end)) is ∙ rw (e in_path)
 
-    pub path_absent : (end : ℕ) → got ≡ Absent end → (r : Result (ℕ × ℕ) Refusal) → r ≡ end_answer 0 0 (drop end path)
+    pub path_absent : (end : ℕ) → got ≡ Ok (Absent end) → (r : Result (ℕ × ℕ) Refusal) → r ≡ end_answer 0 0 (drop end path)
         → r ≡ verify_answer path (judge_pages deepest key root 0 path)
-    path_absent end is r e = e ∙ absent_ends path (drop end path) ∙ sym (ap (verify_answer path) (page_next (Absent end) is))
+    path_absent end is r e = e ∙ absent_ends path (drop end path) ∙ sym (ap (verify_answer path) (page_next (Ok (Absent end)) is))
 
 -- ---- the arguments
 module _ (path key root : List ℕ) where

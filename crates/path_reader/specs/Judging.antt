@@ -1,14 +1,12 @@
 -- What is said of a path's pages and their entries. Contracts inside this crate cite it, and no public contract does.
 use Rattle.std.specs.Prelude.{ℕ, zero, suc, ◌+◌, ◌≤◌, ◌<◌, ◌≡◌, Bool, true, cond, ◌&&◌, List, [], ◌∷◌, ◌++◌, length, take, drop, Result, Ok, Err}
 use Rattle.answer.specs.declared.Refusal.{Refusal}
-use Rattle.answer.specs.declared.Refusal.TheVariants.{EndsEarly as Early, Departs as Departing, BytesFollow}
+use Rattle.answer.specs.declared.Refusal.TheVariants.{BytesFollow}
 use Rattle.value.specs.Value.{digest_length, digest_in}
 use Rattle.key.specs.Key.{lawful, less, shared}
 use Rattle.page.specs.Reading.{read, times}
 use Rattle.page.specs.Page.{RawEntry, RawPage, entry, page}
 use Rattle.page_reader.specs.Place.{link_at}
-use Rattle.page_reader.specs.declared.Stop.{Stop}
-use Rattle.page_reader.specs.declared.Stop.TheVariants.{EndsEarly, Departs}
 use Rattle.page_reader.specs.declared.EntryAt.{EntryAt}
 use Rattle.page_keys.specs.Buffer.{HoldsKey}
 use Rattle.tree.specs.Judge.{all_lawful, rising}
@@ -17,8 +15,8 @@ use Rattle.path.specs.Verify.{Sought, value_at, in_gap, sought_from, PathVerdict
 use Rattle.path_reader.specs.declared.entries.Search.{Search}
 use Rattle.path_reader.specs.declared.entries.Search.TheVariants.{On, Value, Gap}
 use Rattle.path_reader.specs.declared.entries.EntriesJudged.{EntriesJudged}
-use Rattle.path_reader.specs.declared.pages.PageVerdict.{PageVerdict}
-use Rattle.path_reader.specs.declared.pages.PageVerdict.TheVariants.{Present, Absent, Linked, Refused}
+use Rattle.path_reader.specs.declared.pages.PageSays.{PageSays}
+use Rattle.path_reader.specs.declared.pages.PageSays.TheVariants.{Present, Absent, Linked}
 
 -- ---- one entry
 -- Whether the key that takes its prefix from the key held is greater than that one, where the prefix length is right and the key no longer than
@@ -73,45 +71,40 @@ JudgesEntries s first n left key r =
     (es : List RawEntry) (past : ℕ) → times n entry (drop first s) ≡ read es (drop past s) → RowJudged s first left key es r
 
 -- ---- one page
--- The refusal of a page that cannot be read.
-abbrev pub refusal_of : Stop → Refusal
-refusal_of EndsEarly = Early
-refusal_of Departs = Departing
-
 -- Whether the prefix lengths of the page at a place are right, where it is read; a pass over its entries has told so, or has failed to tell.
 unfoldable pub JudgesPrefixes : List ℕ → ℕ → Bool → Bool → Type 0
 JudgesPrefixes path at told r =
     (p : RawPage) (rest : List ℕ) → page (drop at path) ≡ read p rest → (told ≡ true → prefixes_of [] p.entries ≡ true) → r ≡ prefixes_of [] p.entries
 
 -- What a page says whose tests hold, where the key would stand in a gap with the digest of its link at a place, or 0.
-unfoldable pub said_in_gap : ℕ → ℕ → PageVerdict
+unfoldable pub said_in_gap : ℕ → ℕ → PageSays
 said_in_gap zero end = Absent end
 said_in_gap (suc before) end = Linked (suc before) end
 
 -- The same by the search in it.
-abbrev pub said_by : Search → ℕ → PageVerdict
+abbrev pub said_by : Search → ℕ → PageSays
 said_by (On link) end = said_in_gap link end
 said_by (Value value) end = Present value end
 said_by (Gap link) end = said_in_gap link end
 
 -- What the path says from a page on that says this, where at most `depth` pages follow it.
-abbrev pub from_page : List ℕ → List ℕ → ℕ → PageVerdict → PathVerdict
-from_page path key depth (Present value end) = at_end (present value) (drop end path)
-from_page path key depth (Absent end) = at_end absent (drop end path)
-from_page path key depth (Linked link end) = judge_pages depth key (digest_in path link) end (drop end path)
-from_page path key depth (Refused r) = stopped r
+abbrev pub from_page : List ℕ → List ℕ → ℕ → Result PageSays Refusal → PathVerdict
+from_page path key depth (Ok (Present value end)) = at_end (present value) (drop end path)
+from_page path key depth (Ok (Absent end)) = at_end absent (drop end path)
+from_page path key depth (Ok (Linked link end)) = judge_pages depth key (digest_in path link) end (drop end path)
+from_page path key depth (Err r) = stopped r
 
 -- All bytes of the digest that it names stand in the path.
-abbrev pub VerdictWithin : List ℕ → PageVerdict → Type 0
-VerdictWithin path (Present value end) = value + digest_length ≤ length path
-VerdictWithin path (Absent end) = Unit {0}
-VerdictWithin path (Linked link end) = link + digest_length ≤ length path
-VerdictWithin path (Refused r) = Unit {0}
+abbrev pub SaidWithin : List ℕ → Result PageSays Refusal → Type 0
+SaidWithin path (Ok (Present value end)) = value + digest_length ≤ length path
+SaidWithin path (Ok (Absent end)) = Unit {0}
+SaidWithin path (Ok (Linked link end)) = link + digest_length ≤ length path
+SaidWithin path (Err r) = Unit {0}
 
 -- The page at a place, where this digest is due.
-pub record JudgesPage (path : List ℕ) (at : ℕ) (key digest : List ℕ) (r : PageVerdict) : Type 0 where
+pub record JudgesPage (path : List ℕ) (at : ℕ) (key digest : List ℕ) (r : Result PageSays Refusal) : Type 0 where
   pub says : (depth : ℕ) → judge_pages (suc depth) key digest at (drop at path) ≡ from_page path key depth r
-  pub within : VerdictWithin path r
+  pub within : SaidWithin path r
 
 -- ---- where the search has ended
 -- Two values are answered; bytes left draw 4.

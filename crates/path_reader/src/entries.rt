@@ -101,24 +101,18 @@ pub fn judge_entries(s: &[u8], first: usize, n: usize, left: usize, key: &[u8]) 
         search: Search::On(left),
     };
     let mut at = first;
-    let mut i = 0;
-    while i < n {
-        i += 1;
-        match locate_entry(s, at) {
-            Ok(e) => {
-                let shares = e.shares;
-                let remainder = e.remainder;
-                let length = e.size;
-                let fits = prefix_fits(&buffer, size, s, shares, remainder, length);
-                let rising = rises(&buffer, size, s, shares, remainder, length);
-                size = extend_key(&mut buffer, size, s, shares, remainder, length);
-                judged = take_entry(judged, fits, rising, &buffer, size, key, e);
-                at = e.end;
-            }
-            Err(_) => {
-                return judged;
-            }
-        }
+    for i in 0..n {
+        let Ok(e) = locate_entry(s, at) else {
+            return judged;
+        };
+        let shares = e.shares;
+        let remainder = e.remainder;
+        let length = e.size;
+        let fits = prefix_fits(&buffer, size, s, shares, remainder, length);
+        let rising = rises(&buffer, size, s, shares, remainder, length);
+        size = extend_key(&mut buffer, size, s, shares, remainder, length);
+        judged = take_entry(judged, fits, rising, &buffer, size, key, e);
+        at = e.end;
     }
     judged
 }

@@ -21,9 +21,7 @@ pub fn verify(path: &[u8], key: &[u8], root: &[u8]) -> Result<(u32, u32), Refusa
     if LONGEST < path.len() {
         return Err(Refusal::TooLong);
     }
-    if let Err(refusal) = slash(key) {
-        return Err(refusal);
-    }
+    slash(key)?;
     if root.len() != DIGEST {
         return Err(Refusal::WrongValue);
     }

@@ -3,35 +3,24 @@ ghost use Rattle.std.specs.Prelude.{◌≡◌, false, ◌≤◌, length, drop};
 ghost use Rattle.limits.specs.Limits.{deepest, longest};
 ghost use Rattle.bytestring.specs.Bytes.{Bytes};
 ghost use Rattle.path.specs.Verify.{judge_pages, verify_answer};
-ghost use Rattle.path_reader.specs.Judging.{refusal_of, JudgesPrefixes, said_in_gap, said_by, JudgesPage, end_answer};
+ghost use Rattle.path_reader.specs.Judging.{JudgesPrefixes, said_in_gap, said_by, JudgesPage, end_answer};
 
 use crate::entries::{Search, judge_entries};
 use answer::Refusal;
 use bytestring::same_bytes;
 use limits::{DEEPEST, NUMBERS};
 use page_keys::prefixes_fit;
-use page_reader::{Stop, read_page};
+use page_reader::read_page;
 use sha256::digest_of;
 use value::{Digest, codec_at, digest_at};
 
-// What a page says: the key is an entry, whose value's digest stands at a place; it would stand in a gap without a link; it would stand in a gap whose
-// link's digest is at a place; or the page is refused. A page that is not refused ends before the place that is given last.
+// What a page says that is not refused: the key is an entry, whose value's digest stands at a place; it would stand in a gap without a link; it
+// would stand in a gap whose link's digest is at a place. The page ends before the place that is given last.
 #[derive(Clone, Copy)]
-pub enum PageVerdict {
+pub enum PageSays {
     Present(usize, usize),
     Absent(usize),
     Linked(usize, usize),
-    Refused(Refusal),
-}
-
-// The refusal of a page that cannot be read.
-fn refusal_of(stop: Stop) -> Refusal
-    ensures { result ≡ refusal_of stop }
-{
-    match stop {
-        Stop::EndsEarly => Refusal::EndsEarly,
-        Stop::Departs => Refusal::Departs,
-    }
 }
 
 // Whether the prefix lengths of the page at a place are right. It is read again, with room for every byte that a prefix can reach.
@@ -39,10 +28,10 @@ fn prefixes_again(path: &[u8], at: usize) -> bool
     ensures { JudgesPrefixes path.now at false result }
 {
     let mut buffer = [0u8; NUMBERS];
-    match read_page(path, at) {
-        Ok(p) => prefixes_fit(path, p.first, p.count, &mut buffer),
-        Err(_) => true,
-    }
+    let Ok(p) = read_page(path, at) else {
+        return true;
+    };
+    prefixes_fit(path, p.first, p.count, &mut buffer)
 }
 
 // The same after the pass over its entries, which may have failed to tell, where a key is longer than any lawful one. A function that is called
@@ -57,56 +46,51 @@ fn page_prefixes_fit(path: &[u8], at: usize, told: bool) -> bool
 }
 
 // The search has come to a gap.
-fn in_gap(link: usize, end: usize) -> PageVerdict
+fn in_gap(link: usize, end: usize) -> PageSays
     ensures { result ≡ said_in_gap link end }
 {
     if link == 0 {
-        return PageVerdict::Absent(end);
+        return PageSays::Absent(end);
     }
-    PageVerdict::Linked(link, end)
+    PageSays::Linked(link, end)
 }
 
 // What a page says whose tests hold.
-fn said_by(search: Search, end: usize) -> PageVerdict
+fn said_by(search: Search, end: usize) -> PageSays
     ensures { result ≡ said_by search end }
 {
     match search {
         Search::On(link) => in_gap(link, end),
-        Search::Value(value) => PageVerdict::Present(value, end),
+        Search::Value(value) => PageSays::Present(value, end),
         Search::Gap(link) => in_gap(link, end),
     }
 }
 
 // One page of the path, at a place: the tests of its keys, its digest, and the search in it.
-fn judge_page(path: &[u8], at: usize, key: &[u8], due: &Digest) -> PageVerdict
+fn judge_page(path: &[u8], at: usize, key: &[u8], due: &Digest) -> Result<PageSays, Refusal>
     requires { Bytes path.now }
     ensures { JudgesPage path.now at key.now due.now result }
 {
-    match read_page(path, at) {
-        Ok(p) => {
-            let end = p.end;
-            let judged = judge_entries(path, p.first, p.count, p.left, key);
-            if !judged.lawful {
-                if !page_prefixes_fit(path, at, judged.prefixes) {
-                    return PageVerdict::Refused(Refusal::WrongPrefix);
-                }
-                return PageVerdict::Refused(Refusal::UnlawfulKey);
-            }
-            if !page_prefixes_fit(path, at, judged.prefixes) {
-                return PageVerdict::Refused(Refusal::WrongPrefix);
-            }
-            if !judged.rising {
-                return PageVerdict::Refused(Refusal::KeysNotRising);
-            }
-            let digest = digest_of(&path[at..end]);
-            if !same_bytes(&digest, due) {
-                return PageVerdict::Refused(Refusal::PageNotDue);
-            }
-            let search = judged.search;
-            said_by(search, end)
+    let p = read_page(path, at)?;
+    let end = p.end;
+    let judged = judge_entries(path, p.first, p.count, p.left, key);
+    if !judged.lawful {
+        if !page_prefixes_fit(path, at, judged.prefixes) {
+            return Err(Refusal::WrongPrefix);
         }
-        Err(stop) => PageVerdict::Refused(refusal_of(stop)),
+        return Err(Refusal::UnlawfulKey);
     }
+    if !page_prefixes_fit(path, at, judged.prefixes) {
+        return Err(Refusal::WrongPrefix);
+    }
+    if !judged.rising {
+        return Err(Refusal::KeysNotRising);
+    }
+    let digest = digest_of(&path[at..end]);
+    if !same_bytes(&digest, due) {
+        return Err(Refusal::PageNotDue);
+    }
+    Ok(said_by(judged.search, end))
 }
 
 // The search has ended in the page that ends before the place end, with these two values: bytes left draw 4.
@@ -127,24 +111,19 @@ pub fn judge_pages(path: &[u8], key: &[u8], root: Digest) -> Result<(u32, u32), 
 {
     let mut due = root;
     let mut at = 0;
-    let mut level = 0;
-    while level < DEEPEST {
-        match judge_page(path, at, key, &due) {
-            PageVerdict::Present(value, end) => {
+    for level in 0..DEEPEST {
+        match judge_page(path, at, key, &due)? {
+            PageSays::Present(value, end) => {
                 return at_end(path, end, value, codec_at(path, value));
             }
-            PageVerdict::Absent(end) => {
+            PageSays::Absent(end) => {
                 return at_end(path, end, 0, 0);
             }
-            PageVerdict::Linked(link, end) => {
+            PageSays::Linked(link, end) => {
                 due = digest_at(path, link);
                 at = end;
             }
-            PageVerdict::Refused(refusal) => {
-                return Err(refusal);
-            }
         }
-        level += 1;
     }
     if at < path.len() {
         return Err(Refusal::Departs);

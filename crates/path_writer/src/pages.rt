@@ -3,11 +3,12 @@
 ghost use Rattle.std.specs.Prelude.{◌≡◌, ◌*◌, ◌≤◌, length};
 ghost use Rattle.word.specs.Word.{page_in, above_in, end_in, from_in, records_in};
 ghost use Rattle.limits.specs.Limits.{longest};
-ghost use Rattle.index.specs.Accepted.{ChainRow};
+ghost use Rattle.judge.specs.Standing.{Stands};
 ghost use Rattle.path_writer.specs.Chains.{covers, pages_at, PathMeasured, ShortPath, PathSays};
 
 use answer::Refusal;
 use bytestring::{clear, write_bytes};
+use judge::accepted::Accepted;
 use word::{above_in, end_in, from_in, page_in, records_in};
 use writer::refusal::refuse;
 
@@ -19,10 +20,7 @@ fn chain_covers(span: u64, low: usize, high: usize) -> bool
     ensures { result ≡ covers low high (from_in span) (records_in span) }
 {
     let from = from_in(span);
-    if low < from {
-        return false;
-    }
-    high <= from + records_in(span)
+    from <= low && high <= from + records_in(span)
 }
 
 // The pages of a chain, one after the other, by its two words.
@@ -50,25 +48,24 @@ fn write_whole(bytes: &[u8], out: &mut [u8]) -> Result<u32, Refusal>
 
 // The pages of the chains that hold these positions, one after the other. The empty register has no chain, and its one page is the path.
 pub fn write_path(
-    register: &[u8],
-    chains: &[u64],
-    n: usize,
+    accepted: &Accepted,
     low: usize,
     high: usize,
     out: &mut [u8],
 ) -> Result<u32, Refusal>
-    requires { ChainRow register.now chains.now n × ShortPath register.now low high }
-    ensures { PathSays register.now low high (length out.old) result out.new }
+    requires { Stands accepted.now × ShortPath accepted.now.register.now low high }
+    ensures { PathSays accepted.now.register.now low high (length out.old) result out.new }
 {
+    let register = accepted.register;
+    let chains = accepted.chains;
+    let n = chains.len() / 2;
     if n == 0 {
         return write_whole(register, out);
     }
     let mut next = 0;
-    let mut i = 0;
-    while i < n {
+    for i in 0..n {
         let span = chains[2 * i + 1];
         if !chain_covers(span, low, high) {
-            i += 1;
             continue;
         }
         let pages = chain_pages(register, chains[2 * i], span);
@@ -77,7 +74,6 @@ pub fn write_path(
         }
         write_bytes(&mut out[next..], pages);
         next += pages.len();
-        i += 1;
     }
     clear(&mut out[next..]);
     Ok(next as u32)

@@ -1,13 +1,14 @@
 // The call, with rows that are lent: one with a word for each record of the register and one with two words for each chain of its pages.
+// Where it refuses, the output is cleared, so that no refusal goes out by `?`.
 ghost use Rattle.std.specs.Prelude.{◌≡◌, length};
-ghost use Rattle.index.specs.Accepted.{AcceptedIndex, ChainRow};
+ghost use Rattle.judge.specs.Standing.{Stands};
 ghost use Rattle.judge.specs.Verdict.{RoomFor};
 ghost use Rattle.promises.specs.Outcome.{answer_of, output_of};
 ghost use Rattle.path.specs.Path.{path_outcome};
 
 use crate::pages::write_path;
 use answer::Refusal;
-use judge::judge;
+use judge::accepted::{Accepted, accept};
 use key_calls::slash;
 use reading::accepted::{lower_bound, upper_bound};
 use writer::refusal::refuse;
@@ -24,30 +25,22 @@ pub fn path_with_rows(
     ensures answer { result ≡ answer_of (path_outcome register.now key.now (length out.old)) }
     ensures output { out.new ≡ output_of (path_outcome register.now key.now (length out.old)) (length out.old) }
 {
-    match judge(register, index, chains) {
-        Ok((count, n)) => path_accepted(register, key, index, count, chains, n, out),
+    match accept(register, index, chains) {
+        Ok(accepted) => path_accepted(&accepted, key, out),
         Err(refusal) => refuse(out, refusal),
     }
 }
 
 // The same of a register that is accepted.
-fn path_accepted(
-    register: &[u8],
-    key: &[u8],
-    index: &[u64],
-    count: usize,
-    chains: &[u64],
-    n: usize,
-    out: &mut [u8],
-) -> Result<u32, Refusal>
-    requires { AcceptedIndex register.now index.now count × ChainRow register.now chains.now n }
-    ensures answer { result ≡ answer_of (path_outcome register.now key.now (length out.old)) }
-    ensures output { out.new ≡ output_of (path_outcome register.now key.now (length out.old)) (length out.old) }
+fn path_accepted(accepted: &Accepted, key: &[u8], out: &mut [u8]) -> Result<u32, Refusal>
+    requires { Stands accepted.now }
+    ensures answer { result ≡ answer_of (path_outcome accepted.now.register.now key.now (length out.old)) }
+    ensures output { out.new ≡ output_of (path_outcome accepted.now.register.now key.now (length out.old)) (length out.old) }
 {
     if let Err(refusal) = slash(key) {
         return refuse(out, refusal);
     }
-    let low = lower_bound(register, index, count, key);
-    let high = upper_bound(register, index, count, key);
-    write_path(register, chains, n, low, high, out)
+    let low = lower_bound(accepted, key);
+    let high = upper_bound(accepted, key);
+    write_path(accepted, low, high, out)
 }

@@ -1,8 +1,9 @@
 -- The records of an accepted register, by their number and beside a key.
-use Rattle.std.specs.Prelude.{Result, Ok, Err}
+use Rattle.std.specs.Prelude.{Result, Ok, Err, Option as Found, Some, None}
+use Rattle.std.specs.Option.{SomeIff}
 use Prim.Native.Nat.{ℕ, ◌+◌, ◌-◌, ◌≤◌, ◌<◌}
-use mathlib.Core.Path.{◌≡◌, refl, sym, ap, ◌∙◌}
-use mathlib.Core.Option.{some}
+use mathlib.Core.Path.{◌≡◌, refl, sym, ap, subst, ◌∙◌}
+use mathlib.Core.Option.{Option, none, some}
 use mathlib.Core.List.{List, ◌++◌}
 use native.Mathlib.Omega.{arith}
 use lib.ListN.{length, take, drop, get_or}
@@ -39,7 +40,7 @@ use Rattle.row.specs.Row.{nothing}
 use Rattle.row.specs.Search.{count_below, CountSays}
 use Rattle.row.proofs.Counting.{nth_from, none_below, nth_below}
 use Rattle.reading.specs.Beside.{beside_record, beside_outcome}
-use Rattle.reading.specs.Positions.{accepted_records}
+use Rattle.reading.specs.Positions.{accepted_records, PositionSays}
 
 -- ---- what a call of list answers and writes
 abbrev pub ListSays : Listed → ℕ → Result ℕ Refusal → List ℕ → List ℕ → Type 0
@@ -142,18 +143,28 @@ module _ {s index : List ℕ} {count : ℕ} (a : AcceptedIndex s index count) wh
   count_is = ap length records_in_lem ∙ sym a.size
 
 -- ---- the position beside a key
-module _ (k : List ℕ) (rs : List Record) (n : ℕ) (below : n ≡ count_below k rs) (b : Bool) where
-  pub after_position : b ≡ true → nth n rs ≡ beside_record b k rs
-  unfolding beside_record
-  after_position q = rw (q, below) (sym (nth_from k rs))
+none_left : (n : ℕ) → (1 ≤ n → ⊥) → n ≡ 0
+none_left n f = omega (arith, f)
 
-  pub no_position : b ≡ false → n ≡ 0 → (count : ℕ) → length rs ≡ count → nth count rs ≡ beside_record b k rs
+module _ (k : List ℕ) (rs : List Record) (n count : ℕ) (below : n ≡ count_below k rs) (within : n ≤ count) (size : length rs ≡ count) (b : Bool) where
+  pub after_position : b ≡ true → n < count → PositionSays count rs (beside_record b k rs) (Some n)
   unfolding beside_record
-  no_position q h count e = rw (q, none_below k rs (sym below ∙ h)) (nth_past count rs (omega arith))
+  after_position q h = (h, rw (q, below) (sym (nth_from k rs)))
 
-  pub before_position : b ≡ false → 0 < n → nth (n - 1) rs ≡ beside_record b k rs
+  pub none_after : b ≡ true → count ≤ n → PositionSays count rs (beside_record b k rs) None
   unfolding beside_record
-  before_position q h = rw q (sym (nth_below k rs (n - 1) (omega (arith, below))))
+  none_after q h = rw q (nth_from k rs ∙ nth_past (count_below k rs) rs (omega (arith, below)))
+
+  pub before_position : b ≡ false → (got : Found ℕ) → SomeIff got (1 ≤ n) (n - 1) → PositionSays count rs (beside_record b k rs) got
+  unfolding beside_record
+  before_position q None f = rw q (none_below k rs (sym below ∙ none_left n f))
+  before_position q (Some x) (h, e) = (omega arith, rw (e, q) (sym (nth_below k rs (n - 1) (omega (arith, below)))))
+
+pub position_is : (count : ℕ) (rs : List Record) (r : Option Record) {got : Found ℕ} {n : ℕ} → PositionSays count rs r got → got ≡ Some n → (n < count) × (nth n rs ≡ r)
+position_is count rs r w e = subst (PositionSays count rs r) e w
+
+pub no_position : (count : ℕ) (rs : List Record) (r : Option Record) {got : Found ℕ} → PositionSays count rs r got → got ≡ None → r ≡ none
+no_position count rs r w e = subst (PositionSays count rs r) e w
 
 -- ---- the outcome
 module _ (b : Bool) (s k : List ℕ) (room : ℕ) where
@@ -179,6 +190,8 @@ module _ (b : Bool) (s k : List ℕ) (room : ℕ) where
       unfolding beside_key one_record list_outcome list_verdict list_record
       beside_given h = rw (beside_is, a.judged, l, found, nth_there n (records a.tree) nothing (omega (arith, a.size)))
 
-      pub beside_none : count ≤ n → beside_outcome b s k room ≡ unlisted KeyAbsent
-      unfolding beside_key one_record
-      beside_none h = rw (beside_is, a.judged, l, found, nth_past n (records a.tree) (omega (arith, a.size)))
+    pub beside_none : lawful k ≡ true → beside_record b k (accepted_records (judge s)) ≡ none → beside_outcome b s k room ≡ unlisted KeyAbsent
+    unfolding beside_key one_record
+    beside_none l says =
+        let absent : beside_record b k (records a.tree) ≡ none = rw (records_in_lem a) at says in
+        rw (beside_is, a.judged, l, absent)

@@ -15,6 +15,8 @@ use Rattle.tree.proofs.Sizes.{table_length}
 use Rattle.tree.proofs.Accept.{accepted_table}
 use Rattle.index.specs.Accepted.{AcceptedIndex, ChainRow}
 use Rattle.judge.specs.Verdict.{RoomFor, RegisterSays}
+use Rattle.judge.specs.declared.accepted.Accepted.{Accepted}
+use Rattle.judge.specs.Standing.{Stands}
 use Rattle.tree.specs.Record.{records}
 use Rattle.tree.proofs.Laws.{accepted_table}
 use Rattle.row.specs.Row.{Row, records_of}
@@ -59,6 +61,9 @@ pub record Accepting (s index : List ℕ) (count : ℕ) : Type 0 where
 
 pub accepting : {s index : List ℕ} {count : ℕ} → ((i : ℕ) → i < length s → get_or s i 0 < 256) → AcceptedIndex s index count → Accepting s index count
 accepting {s} small given = record { bytes = bytes_of_lem s small; given = given }
+
+pub standing : {a : Accepted} → Stands a → Accepting a.register.now a.index.now (length a.index.now)
+standing w = record { bytes = w.bytes; given = w.records }
 
 module _ {s index : List ℕ} {count : ℕ} (a : Accepting s index count) where
   abbrev pub t : SpeltTree

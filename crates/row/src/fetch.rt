@@ -8,7 +8,7 @@ use page_reader::{locate_entry, read_page_start};
 use word::{entry_in, is_first, page_in, size_in};
 
 // The length of a key, which a buffer holds, and the places of its value and of what follows its entry.
-#[derive(Clone, Copy)]
+#[derive(Clone, Copy, Default)]
 pub struct FetchedAt {
     pub size: usize,
     pub value: usize,
@@ -19,10 +19,10 @@ pub struct FetchedAt {
 fn first_of(s: &[u8], page: usize) -> Option<(usize, usize)>
     ensures { (entry note : ℕ) → StartSays s.now page entry note result }
 {
-    match read_page_start(s, page) {
-        Ok((_, first)) => Some((first, 0)),
-        Err(_) => None,
-    }
+    let Ok((_, first)) = read_page_start(s, page) else {
+        return None;
+    };
+    Some((first, 0))
 }
 
 // From the key that the note is about, where it stands before the entry in its page, or else from the first entry of the page.
@@ -30,59 +30,39 @@ fn way_to(s: &[u8], page: usize, entry: usize, note: u64) -> Option<(usize, usiz
     ensures { StartSays s.now page entry note result }
 {
     let next = entry_in(note);
-    if next == 0 {
-        return first_of(s, page);
-    }
-    if page_in(note) != page {
-        return first_of(s, page);
-    }
-    if entry < next {
+    if next == 0 || page_in(note) != page || entry < next {
         return first_of(s, page);
     }
     Some((next, size_in(note)))
 }
 
-// No record stands at the places of the word.
-fn nowhere() -> FetchedAt {
-    FetchedAt {
-        size: 0,
-        value: 0,
-        next: 0,
-    }
-}
-
 // The record whose page and entry stand at the places in the word. Its key goes into the buffer, which holds the key that the note is
-// about.
+// about. Where no record stands at these places, the answer says nothing: those who call know that one does.
 pub fn fetch_from(s: &[u8], word: u64, buffer: &mut [u8], note: u64) -> FetchedAt
     ensures { FetchSays s.now word buffer.old note buffer.new result }
 {
     let page = page_in(word);
     let entry = entry_in(word);
-    match way_to(s, page, entry, note) {
-        Some((first, held)) => {
-            let mut size = held;
-            let mut at = first;
-            while at < entry {
-                match locate_entry(s, at) {
-                    Ok(e) => {
-                        size = extend_key(buffer, size, s, e.shares, e.remainder, e.size);
-                        at = e.end;
-                    }
-                    Err(_) => {
-                        return nowhere();
-                    }
-                }
-            }
-            match locate_entry(s, at) {
-                Ok(e) => FetchedAt {
-                    size: extend_key(buffer, size, s, e.shares, e.remainder, e.size),
-                    value: e.value,
-                    next: e.end,
-                },
-                Err(_) => nowhere(),
-            }
-        }
-        None => nowhere(),
+    let Some((first, held)) = way_to(s, page, entry, note) else {
+        return FetchedAt::default();
+    };
+    let mut size = held;
+    let mut at = first;
+    // The place goes on by the length of an entry.
+    while at < entry {
+        let Ok(e) = locate_entry(s, at) else {
+            return FetchedAt::default();
+        };
+        size = extend_key(buffer, size, s, e.shares, e.remainder, e.size);
+        at = e.end;
+    }
+    let Ok(e) = locate_entry(s, at) else {
+        return FetchedAt::default();
+    };
+    FetchedAt {
+        size: extend_key(buffer, size, s, e.shares, e.remainder, e.size),
+        value: e.value,
+        next: e.end,
     }
 }
 

@@ -15,6 +15,7 @@ pub fn search(s: &[u8], index: &[u64], count: usize, key: &[u8]) -> Result<(usiz
     let mut buffer = [0u8; LONGEST_KEY];
     let mut low = 0;
     let mut high = count;
+    // The range that is left is halved. The library's search wants an answer for every word, and only the word of a record has a key.
     while low < high {
         let middle = low + (high - low) / 2;
         let found = fetch_from(s, index[middle], &mut buffer, 0);

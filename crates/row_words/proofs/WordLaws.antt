@@ -3,14 +3,16 @@ use Prim.Native.Nat.{ℕ, suc, ◌+◌, ◌-◌, ◌≤◌, ◌<◌}
 use mathlib.Core.Path.{◌≡◌, refl, sym, ap, subst, ◌∙◌}
 use mathlib.Core.Bool.{true, false}
 use mathlib.Core.Option.{none}
-use mathlib.Core.List.{List, [], ◌∷◌, ◌++◌, append_assoc, append-nil}
+use mathlib.Core.List.{List, [], ◌∷◌, ◌++◌, append_assoc}
 use native.Mathlib.Nat.{add-zero}
 use native.Mathlib.Numerals.{add-one}
 use native.Mathlib.Omega.{arith}
-use lib.ListN.{length, take, drop, get_or, set, length-drop, drop_of_length-le}
-use lib.Seq.{take_all, take-suc, take-suc-set, drop_at, drop-append-le, drop-set-lt, drop-drop, get_or-drop, get_or-set_same, get_or-set_other, length-take-le}
+use lib.ListN.{length, take, drop, get_or, set, length-drop}
+use Rattle.std.proofs.lemmas.List.{set-append_left}
+use lib.Seq.{paste, take-paste, take-set-lt, take_all, take-suc-set, drop_at, drop-set-lt, drop-drop, get_or-drop, get_or-set_same, get_or-set_other, length-take-le}
 use borrow.Author.Count.{below_more, below_none}
 use Rattle.bytestring.proofs.Lending.{lent, back, onto}
+use Rattle.bytestring.proofs.Tools.{part_taken}
 use Rattle.bytestring.specs.Bytes.{front}
 use Rattle.word.specs.Word.{from_second, second_word, RecordWord}
 use Rattle.value.specs.Value.{is_value}
@@ -73,64 +75,24 @@ module _ (index index' : List ℕ) (i : ℕ) (u : ChangedSoFar index index' i) w
   changed_all n h g = let e : n ≡ i = omega arith in rw e u.done
 
 -- ---- a word left out
--- The words before i are those of the row without the one at the position, and those from i on are as they were.
-pub record LeftSoFar (row : List ℕ) (at : ℕ) (row' : List ℕ) (i : ℕ) : Type 0 where
-  pub done : take i row' ≡ take at row ++ drop (at + 1) (take (i + 1) row)
-  pub left : drop i row' ≡ drop i row
-
-pub left_none : (row : List ℕ) (at : ℕ) → at < length row → LeftSoFar row at row at
-left_none row at h =
-    let all : length (take (at + 1) row) ≤ at + 1 = omega (arith, length-take-le (at + 1) row (omega arith)) in
-    record { done = sym (rw (drop_of_length-le (take (at + 1) row) all) (append-nil (take at row))); left = refl }
-
-module _ (row : List ℕ) (at : ℕ) (row' : List ℕ) (i : ℕ) (u : LeftSoFar row at row' i) where
-  pub left_more : at ≤ i → i + 1 < length row → length row' ≡ length row → LeftSoFar row at (set row' i (get_or row' (i + 1) 0)) (i + 1)
-  left_more from h same =
-      let next : get_or row' (i + 1) 0 ≡ get_or row (i + 1) 0 = word_on row row' i u.left 1 in
-      let long : at + 1 ≤ length (take (suc i) row) = omega (arith, length-take-le (suc i) row (omega arith)) in
-      let more : drop (at + 1) (take (suc (suc i)) row) ≡ drop (at + 1) (take (suc i) row) ++ (get_or row (suc i) 0 ∷ []) =
-      ap (drop (at + 1)) (take-suc row (suc i) 0 (omega arith)) ∙ drop-append-le (at + 1) (take (suc i) row) (get_or row (suc i) 0 ∷ []) long in
-      record {
-        done = rw (next, add-one i, take-suc-set row' i (get_or row (suc i) 0) (omega arith), u.done, add-one i, add-one (suc i), more)
-            (append_assoc (take at row) (drop (at + 1) (take (suc i) row)) (get_or row (suc i) 0 ∷ []));
-        left = same_on row row' i u.left (get_or row' (i + 1) 0);
-      }
-
-  pub left_all : (n : ℕ) → 0 < n → i ≤ n - 1 → n - 1 ≤ i → LeftOut row n at row'
-  unfolding LeftOut
-  left_all n some h g =
-      let e : n - 1 ≡ i = omega arith in
-      let f : n ≡ i + 1 = omega arith in
-      rw (e, f) u.done
+-- the words behind it were copied to its place
+pub left_out : (row : List ℕ) (n at : ℕ) → at < n → n ≤ length row → (row' : List ℕ) → row' ≡ paste row at (drop (at + 1) row) (n - (at + 1)) → LeftOut row n at row'
+unfolding LeftOut
+left_out row n at h few row' e =
+    let z : n - 1 ≡ at + (n - (at + 1)) = omega arith in
+    rw (e, z, take-paste row at (drop (at + 1) row) (n - (at + 1)) (omega arith) (omega (arith, length-drop (at + 1) row)), part_taken n (at + 1) row)
 
 -- ---- a word inserted
--- The words before i and the one carried are those of the row with the word at the position, and those from i on are as they were.
-pub record InsertedSoFar (row : List ℕ) (at word : ℕ) (row' : List ℕ) (carried i : ℕ) : Type 0 where
-  pub done : take i row' ++ (carried ∷ []) ≡ take at row ++ (word ∷ drop at (take i row))
-  pub left : drop i row' ≡ drop i row
-
-pub inserted_none : (row : List ℕ) (at word : ℕ) → at ≤ length row → InsertedSoFar row at word row word at
-inserted_none row at word h =
-    let all : length (take at row) ≤ at = omega (arith, length-take-le at row h) in
-    record { done = rw (drop_of_length-le (take at row) all); left = refl }
-
-module _ (row : List ℕ) (at word : ℕ) (row' : List ℕ) (carried i : ℕ) (u : InsertedSoFar row at word row' carried i) where
-  pub inserted_more : at ≤ i → i < length row → length row' ≡ length row → InsertedSoFar row at word (set row' i carried) (get_or row' i 0) (i + 1)
-  inserted_more from h same =
-      let long : at ≤ length (take i row) = omega (arith, length-take-le i row (omega arith)) in
-      let more : drop at (take (suc i) row) ≡ drop at (take i row) ++ (get_or row i 0 ∷ []) =
-      ap (drop at) (take-suc row i 0 h) ∙ drop-append-le at (take i row) (get_or row i 0 ∷ []) long in
-      record {
-        done = rw (word_here row row' i u.left, add-one i, take-suc-set row' i carried (omega arith), u.done, more)
-            (append_assoc (take at row) (word ∷ drop at (take i row)) (get_or row i 0 ∷ []));
-        left = same_on row row' i u.left carried;
-      }
-
-  pub inserted_all : (n : ℕ) → i ≤ n → n ≤ i → i < length row' → Inserted row n at word (set row' i carried)
-  unfolding Inserted
-  inserted_all n h g room =
-      let e : n ≡ i = omega arith in
-      rw (e, add-one i, take-suc-set row' i carried room) u.done
+-- the words from its place on were copied to the place behind it
+pub word_inserted : (row : List ℕ) (n at word : ℕ) → at ≤ n → n < length row → (row' : List ℕ) → row' ≡ paste row (at + 1) (drop at row) (n - at) → Inserted row n at word (set row' at word)
+unfolding Inserted
+word_inserted row n at word h few row' e =
+    let z : n + 1 ≡ at + 1 + (n - at) = omega arith in
+    let moved : take (n + 1) row' ≡ take (suc at) row ++ drop at (take n row) =
+    rw (e, z, take-paste row (at + 1) (drop at row) (n - at) (omega arith) (omega (arith, length-drop at row)), part_taken n at row, add-one at) in
+    take-set-lt (n + 1) row' at word (omega arith)
+    ∙ rw (moved, set-append_left (take (suc at) row) (drop at (take n row)) at word (omega (arith, length-take-le (suc at) row (omega arith))), ← take-set-lt (suc at) row at word (omega arith), take-suc-set row at word (omega arith))
+    (append_assoc (take at row) (word ∷ []) (drop at (take n row)))
 
 -- ---- one record alone
 abbrev entry_of : List ℕ → List ℕ → RawEntry

@@ -8,7 +8,7 @@ ghost use Rattle.row_words.specs.RowWords.{BelowSecond, ToSecond, LeftOut, Inser
 
 use key_calls::layers::layer_of;
 use page_writer::{write_entry, write_page_start};
-use value::{DIGEST, Value};
+use value::Value;
 use word::{record_word, second_word};
 
 // The first n words of an index become words of the second register.
@@ -16,10 +16,8 @@ pub fn to_second(index: &mut [u64], n: usize)
     requires { (n ≤ length index.old) × BelowSecond index.old n }
     ensures { ToSecond index.old n index.new }
 {
-    let mut i = 0;
-    while i < n {
+    for i in 0..n {
         index[i] = second_word(index[i]);
-        i += 1;
     }
 }
 
@@ -28,11 +26,7 @@ pub fn leave_out(row: &mut [u64], n: usize, at: usize)
     requires { (at < n) × (n ≤ length row.old) }
     ensures { LeftOut row.old n at row.new }
 {
-    let mut i = at;
-    while i < n - 1 {
-        row[i] = row[i + 1];
-        i += 1;
-    }
+    row.copy_within(at + 1..n, at);
 }
 
 // A word goes to a position among the first n of a row, and those from there on move up by one.
@@ -40,15 +34,8 @@ pub fn insert_word(row: &mut [u64], n: usize, at: usize, word: u64)
     requires { (at ≤ n) × (n < length row.old) }
     ensures { Inserted row.old n at word row.new }
 {
-    let mut i = at;
-    let mut carried = word;
-    while i < n {
-        let next = row[i];
-        row[i] = carried;
-        carried = next;
-        i += 1;
-    }
-    row[i] = carried;
+    row.copy_within(at..n, at + 1);
+    row[at] = word;
 }
 
 // One record alone, as the second register: the start of a page and the record's entry, and the word that leads to it.
@@ -58,6 +45,6 @@ pub fn single(key: &[u8], value: Value, page: &mut [u8]) -> u64
 {
     let layer = layer_of(key) as usize;
     let at = write_page_start(page, 1);
-    write_entry(&mut page[at..], &key[..0], key, false, [0u8; DIGEST], value);
+    write_entry(&mut page[at..], &key[..0], key, None, value);
     second_word(record_word(0, at, layer))
 }

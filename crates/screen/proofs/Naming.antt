@@ -1,5 +1,5 @@
 -- A collection's name in a buffer, with bytes behind it; the name's test; and where its records begin and end.
-use Rattle.std.specs.Prelude.{Ok, Err}
+use Rattle.std.specs.Prelude.{Result, Ok, Err, is_ok}
 use Prim.Native.Nat.{ℕ, suc, ◌+◌, ◌-◌, ◌≤◌, ◌<◌}
 use mathlib.Core.Path.{◌≡◌, sym, ap, ◌∙◌}
 use mathlib.Core.Bool.{Bool, true, false, false≢true}
@@ -55,14 +55,18 @@ module _ (c : List ℕ) where
       let same = ap (λ (s : List ℕ). take (length c + 2) (set s (length c) slash_byte)) e ∙ two_behind c 0x61 256 slash_byte (omega arith) in
       ap slash_answer (sym same)
 
-  pub name_lawful : {n : ℕ} → slash_answer (tried c) ≡ Ok n → is_collection_name c ≡ true
+  name_lawful : {n : ℕ} → slash_answer (tried c) ≡ Ok n → is_collection_name c ≡ true
   name_lawful e = short_passes c (name_short c (tried_name c (slash_done (tried c) _ e)))
 
   not_name : (ShortOrdinary c → ⊥) → is_collection_name c ≡ false
   not_name h = cases (is_collection_name c) (λ e. absurd (h (passes_short c e))) (λ e. e)
 
-  pub name_unlawful : {r : Refusal} → slash_answer (tried c) ≡ Err r → is_collection_name c ≡ false
+  name_unlawful : {r : Refusal} → slash_answer (tried c) ≡ Err r → is_collection_name c ≡ false
   name_unlawful e = not_name (λ h. false≢true (sym (slash_refused (tried c) _ e).0 ∙ short_tried c h))
+
+  pub name_tested : (r : Result ℕ Refusal) → slash_answer (tried c) ≡ r → is_ok r ≡ is_collection_name c
+  name_tested (Ok n) e = sym (name_lawful e)
+  name_tested (Err r) e = sym (name_unlawful e)
 
   pub name_long : 254 < length c → is_collection_name c ≡ false
   name_long h = not_name (λ s. omega (arith, s.few))

@@ -1,6 +1,6 @@
 -- A screen of records that are known: which positions it has, and what is answered and written.
 use Rattle.std.specs.Prelude.{Result}
-use Prim.Native.Nat.{ℕ, ◌+◌, ◌-◌, ◌*◌, ◌/◌, ◌≤◌, ◌<◌, min}
+use Prim.Native.Nat.{ℕ, ◌+◌, ◌-◌, ◌*◌, ◌/◌, ◌≤◌, ◌<◌, min, max, ◌%◌}
 use mathlib.Core.Path.{◌≡◌, sym, ap, ◌∙◌}
 use mathlib.Core.Bool.{true, false}
 use mathlib.Core.List.{List}
@@ -41,6 +41,11 @@ no_records count h = rw h
 pub screens_counted : (count : ℕ) → (count ≡ 0 → ⊥) → (count - 1) / 8 + 1 ≡ screens count
 unfolding screens
 screens_counted count h = rw (ne_eqb count 0 h) (omega arith)
+
+pub screens_rounded : (count : ℕ) → max (count / 8 + min 1 (count % 8)) 1 ≡ screens count
+unfolding screens
+screens_rounded count =
+    cases (eqb count 0) (λ e. rw e (omega (arith, eqb-true count 0 e))) (λ e. rw e (omega (arith, eqb-false count 0 e)))
 
 pub screens_few : (count : ℕ) → count ≤ 4096 → screens count ≤ 512
 screens_few count h = (screens_suffice count).2 512 (omega arith) (omega arith)

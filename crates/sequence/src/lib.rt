@@ -38,19 +38,12 @@ fn note_links_after(s: &[u8], first: usize, n: usize, links: &mut [u32], count: 
 {
     let mut total = count;
     let mut at = first;
-    let mut i = 0;
-    while i < n {
-        match locate_entry(s, at) {
-            Ok(e) => {
-                let link = e.link;
-                total = note_link(links, link, total);
-                at = e.end;
-            }
-            Err(_) => {
-                return total;
-            }
-        }
-        i += 1;
+    for i in 0..n {
+        let Ok(e) = locate_entry(s, at) else {
+            return total;
+        };
+        total = note_link(links, e.link, total);
+        at = e.end;
     }
     total
 }
@@ -63,22 +56,14 @@ pub fn note_sequence(s: &[u8], links: &mut [u32], pages: &mut [u32]) -> Result<(
     let mut number = 0;
     let mut count = 0;
     let mut at = 0;
+    // The place goes on by the length of a page.
     while at < s.len() {
-        match read_page(s, at) {
-            Ok(p) => {
-                let n = p.count;
-                let first = p.first;
-                let left = p.left;
-                note_place(pages, number, at);
-                let before = note_links_after(s, first, n, links, count);
-                count = note_link(links, left, before);
-                number += 1;
-                at = p.end;
-            }
-            Err(stop) => {
-                return Err(stop);
-            }
-        }
+        let p = read_page(s, at)?;
+        note_place(pages, number, at);
+        let before = note_links_after(s, p.first, p.count, links, count);
+        count = note_link(links, p.left, before);
+        number += 1;
+        at = p.end;
     }
     Ok((number, count))
 }

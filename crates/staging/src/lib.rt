@@ -14,13 +14,8 @@ ghost use Rattle.staging.specs.Pages.{page_start, page_end, PageThere, PageWords
 ghost use Rattle.staging.specs.Inner.{chain_page_words, AddedWords};
 
 use known::label_count;
+use links::{FROM_CHAINS, FROM_FIRST};
 use word::{above_in, end_in, page_in};
-
-// The word of the root, whose digest is lent beside the register.
-const ROOT: u32 = 0x100_0000;
-
-// The words from here on name labels of chains.
-const FROM_CHAINS: u32 = 0x200_0000;
 
 // The words of the pages of a chain, by its number in the row and its first word, after the first `total` words. The new number.
 fn stage_chain(number: usize, word: u64, words: &mut [u32], total: usize) -> usize
@@ -29,10 +24,8 @@ fn stage_chain(number: usize, word: u64, words: &mut [u32], total: usize) -> usi
 {
     let n = label_count(word);
     let first = FROM_CHAINS + 256 * number as u32;
-    let mut k = 0;
-    while k < n {
+    for k in 0..n {
         words[total + k] = first + k as u32;
-        k += 1;
     }
     total + n
 }
@@ -43,12 +36,11 @@ pub fn stage_pages(register: &[u8], chains: &[u64], count: usize, words: &mut [u
     ensures staged { (t : SpeltTree) (root : List ℕ) (rootEnd : ℕ) → judge register.now ≡ accepted t → root ≡ sha256 (bytes_of_page t) → RootEnd register.now rootEnd → PageWords root register.now rootEnd chains.now words.new result (pages_of t) }
     ensures few { (1 ≤ result) × (47 * result ≤ length register.now + 40) }
 {
-    words[0] = ROOT;
+    // The digest of the root is lent beside the register: it is the first string.
+    words[0] = FROM_FIRST;
     let mut total = 1;
-    let mut i = 0;
-    while i < count {
+    for i in 0..count {
         total = stage_chain(i, chains[2 * i], words, total);
-        i += 1;
     }
     total
 }

@@ -2,21 +2,22 @@
 use Rattle.keeping.specs.declared.Unkept.{Unkept}
 use Rattle.keeping.specs.declared.Unkept.TheVariants.{Short, Shared}
 use Rattle.std.specs.Prelude.{Result, Ok, Err}
+use Rattle.std.specs.Option.{unwrap_or}
+use Rattle.std.specs.Result.{result_err}
 use Prim.Native.Nat.{ℕ, ◌+◌, ◌-◌, ◌≤◌, ◌<◌}
 use mathlib.Core.Path.{◌≡◌, refl, sym, ap, subst, ◌∙◌}
 use mathlib.Core.Bool.{Bool, true, false, ◌&&◌}
-use mathlib.Core.List.{List, ◌++◌, append-nil}
+use mathlib.Core.List.{List, ◌++◌}
 use native.Mathlib.Omega.{arith}
 use lib.ListN.{length, take, drop, length-append}
 use lib.Dec.{leb}
 use borrow.Author.Tests.{le-leb, lt-leb}
-use Rattle.bytestring.specs.Bytes.{zeros, front}
+use Rattle.bytestring.specs.Bytes.{zeros}
 use lib.Seq.{take_at}
 use Rattle.limits.specs.Limits.{longest}
 use Rattle.answer.specs.declared.Refusal.{Refusal}
 use Rattle.answer.specs.declared.Refusal.TheVariants.{NoRoom, WrongStates}
 use Rattle.promises.specs.Outcome.{Outcome, stopped, wrote, answer_of, output_of}
-use Rattle.states.specs.Pages.{all_apart}
 use Rattle.states.specs.States.{Saved, unsaved, saved, saved_answer, states_output, pages_output}
 use Rattle.keeping.specs.Kept.{sequence_of}
 use Rattle.state_outputs.specs.Outputs.{with_sequence, with_pages, BothWritten, SavedAs}
@@ -56,6 +57,10 @@ module _ {answer : Result ℕ Refusal} {states pages : List ℕ} {o : Outcome} {
     short_done h =
         let w = done_outcome o b.answered h in
         rw (b.sequence.0, w.1, lt-leb (length (sequence_of ps)) (length pages) (omega (arith, b.sequence.1, b.room)))
+
+    pub short_ends : (a : Result ℕ Refusal) → answer ≡ a → unsaved (unwrap_or (result_err a) NoRoom) ≡ with_pages o ps (length pages)
+    short_ends (Ok n) h = short_done h
+    short_ends (Err r) h = short_refused h
 
   -- ---- it has this length
   pub length_fits : {size : ℕ} → BothWritten answer (Ok size) states pages o ps → size ≤ length pages

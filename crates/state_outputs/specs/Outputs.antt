@@ -1,7 +1,7 @@
 -- What the contracts inside this crate cite, and no public contract does.
 use Rattle.keeping.specs.declared.Unkept.{Unkept}
 use Rattle.answer.specs.declared.Refusal.{Refusal}
-use Rattle.std.specs.Prelude.{ℕ, ◌≤◌, ◌≡◌, true, cond, List, length, Result}
+use Rattle.std.specs.Prelude.{ℕ, ◌≡◌, true, cond, List, length, Result}
 use Rattle.answer.specs.declared.Refusal.TheVariants.{NoRoom, WrongStates}
 use Rattle.key.specs.Key.{lawful}
 use Rattle.promises.specs.Outcome.{Outcome, stopped, wrote, answer_of, output_of}

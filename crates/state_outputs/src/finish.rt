@@ -57,14 +57,10 @@ pub fn finish(
 {
     match kept {
         Ok(size) => finish_length(answer, size, states, pages),
-        Err(unkept) => match unkept {
-            Unkept::Short => {
-                if let Err(refusal) = answer {
-                    return refuse_both(states, pages, refusal);
-                }
-                refuse_both(states, pages, Refusal::NoRoom)
-            }
-            Unkept::Shared => refuse_both(states, pages, Refusal::WrongStates),
-        },
+        Err(Unkept::Short) => {
+            let refusal = answer.err().unwrap_or(Refusal::NoRoom);
+            refuse_both(states, pages, refusal)
+        }
+        Err(Unkept::Shared) => refuse_both(states, pages, Refusal::WrongStates),
     }
 }

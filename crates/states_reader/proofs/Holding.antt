@@ -1,13 +1,14 @@
 -- Number 18: where it is due the states do not pass, and where it is not what is held is right.
+use Rattle.std.specs.Prelude.{Option as OptionOf}
 use Prim.Native.Nat.{ℕ, zero, suc, ◌+◌, ◌-◌, ◌^◌, ◌≤◌, ◌<◌}
 use mathlib.Core.Path.{◌≡◌, refl, sym, ap, subst, ◌∙◌}
 use mathlib.Core.Bool.{Bool, true, false, false≢true}
-use mathlib.Core.Logic.{◌⊎◌, inl, inr, ⊎_elim}
+use mathlib.Core.Logic.{inl, inr, ⊎_elim}
 use mathlib.Core.List.{List, [], ◌∷◌, map}
 use native.Mathlib.Omega.{arith}
-use lib.Dec.{eqb, ltb}
+use lib.Dec.{ltb}
 use lib.ListN.{length, get_or}
-use borrow.Author.Tests.{eqb-false, ne_eqb, ltb-true, ltb-false}
+use borrow.Author.Tests.{ltb-true, ltb-false}
 use borrow.Table.Steps.{cases}
 use Rattle.answer.specs.declared.Refusal.TheVariants.{WrongStates}
 use Rattle.bytestring.specs.Bytes.{Bytes, equal}
@@ -39,8 +40,9 @@ use Rattle.summing.specs.Summed.{note_at}
 use Rattle.summing.specs.Inner.{raws_in, file_of}
 use Rattle.summing.proofs.Pages.{raws_are}
 use Rattle.states_reader.specs.Held.{most_pages, most_words, AmongRecords, ReachedOther, StatesHeld}
-use Rattle.states_reader.specs.Inner.{SequenceHeld, is_state, RootWord, RootsNoted, OwnSays, Unsorted, root_digest, Rooted, SomeWrong, RootsJudged, AllNoted, HoldSays}
+use Rattle.states_reader.specs.Inner.{SequenceHeld, is_state, is_own, RootWord, RootsNoted, OwnSays, Unsorted, root_digest, Rooted, SomeWrong, RootsJudged, AllNoted, HoldSays}
 use Rattle.states_reader.proofs.Verdicts.{states_wrong, states_right}
+use Rattle.states_reader.proofs.Judging.{not_own, is_other}
 use Rattle.states_reader.proofs.Matching.{at_among, among_at, named_there, reached_named, link_leads}
 
 -- ---- records by their positions
@@ -246,7 +248,7 @@ module _ {s p index words₀ pages₀ : List ℕ} {count n m : ℕ} (a : Accepte
         there = λ j h. let w = filed.all (m + j) (omega arith) in (w.0, w.1, w.2 ∙ root_is (m + j) j h refl);
       }
 
-      module _ (k : List ℕ) (own : ℕ) (is : OwnSays s index count k own) {pages : List ℕ}
+      module _ (k : List ℕ) (own : OptionOf ℕ) (is : OwnSays s index count k own) {pages : List ℕ}
           (judged : RootsJudged s p labels roots count own n pages) where
         pub page_unreached : (c : ℕ) × (c < n) × (note_at pages c ≡ 0) → StatesPass rs ps → ⊥
         page_unreached w g =
@@ -280,13 +282,13 @@ module _ {s p index words₀ pages₀ : List ℕ} {count n m : ℕ} (a : Accepte
             all = all;
             marked = λ c h e.
                 let w = judged.marked c h (all c h) e in
-                let other : equal k (key_at rs w.0) ≡ false = is a w.0 w.1 ∙ ne_eqb w.0 own w.2 in
+                let other : equal k (key_at rs w.0) ≡ false = is a w.0 w.1 ∙ not_own own w.0 w.2 in
                 (get_or rs w.0 nothing, at_record rs w.0 (omega (arith, w.1, a.size)), other, rw (← root_digest_lem w.0 w.1) w.3);
             unmarked = λ c h w.
                 let v = record_at_lem w.0 rs w.1 in
                 let l : v.0 < count = omega (arith, v.1, a.size) in
-                let other : eqb v.0 own ≡ false = sym (is a v.0 l) ∙ subst (λ (r : Record). equal k r.key ≡ false) (sym v.2) w.2 in
-                judged.unmarked c h (v.0, l, eqb-false v.0 own other, rw (root_digest_lem v.0 l, v.2) w.3);
+                let other : is_own own v.0 ≡ false = sym (is a v.0 l) ∙ subst (λ (r : Record). equal k r.key ≡ false) (sym v.2) w.2 in
+                judged.unmarked c h (v.0, l, is_other own v.0 other, rw (root_digest_lem v.0 l, v.2) w.3);
           }
 
         pub hold_says : (r : Bool) → AllNoted pages n r → HoldSays s p k index count n r labels pages

@@ -1,4 +1,7 @@
 -- The roots judged one after the other: what they reach, and with which mark.
+use Rattle.std.specs.Prelude.{Some, None, Option as OptionOf}
+use Rattle.std.specs.Option.{option_eq}
+use Rattle.std.proofs.lemmas.Option.{none-some, same_Some}
 use Prim.Native.Nat.{ℕ, zero, suc, ◌+◌, ◌≤◌, ◌<◌}
 use mathlib.Core.Path.{◌≡◌, refl, sym, ap, subst, ◌∙◌}
 use mathlib.Core.Bool.{Bool, true, false, not, false≢true}
@@ -8,7 +11,7 @@ use mathlib.Core.List.{List}
 use native.Mathlib.Omega.{arith}
 use lib.Dec.{eqb, ltb}
 use lib.ListN.{length, get_or, replicate, length-replicate, get_or-replicate}
-use borrow.Author.Tests.{eqb-true, eqb-false, ltb-true, ltb-false}
+use borrow.Author.Tests.{eqb-true, eqb-false, ne_eqb, ltb-true, ltb-false}
 use borrow.Table.Steps.{cases}
 use Rattle.bytestring.specs.Bytes.{Bytes}
 use Rattle.fips180.specs.Hash.{sha256}
@@ -29,7 +32,7 @@ use Rattle.summing.proofs.Reaching.{judged_stays}
 use Rattle.summing.proofs.Pages.{page_found, page_back}
 use Rattle.gathering.specs.Gathered.{Notes}
 use Rattle.states_reader.specs.Held.{most_pages}
-use Rattle.states_reader.specs.Inner.{root_digest, Rooted, Judging, RootJudged, WordSays, ReachedByOther, OthersJudged, SomeWrong, OthersSay, RootsJudged, JudgedSays}
+use Rattle.states_reader.specs.Inner.{is_own, root_digest, Rooted, Judging, RootJudged, WordSays, ReachedByOther, OthersJudged, SomeWrong, OthersSay, RootsJudged, JudgedSays}
 use Rattle.states_reader.proofs.Noting.{up_to}
 
 -- ---- noted pages are closed under links
@@ -83,23 +86,40 @@ noted-or {κ} : {C : Type κ} (pages : List ℕ) (c : ℕ) → (note_at pages c 
 noted-or pages c f g =
     cases (eqb (note_at pages c) 0) (λ q. f (eqb-true (note_at pages c) 0 q)) (λ q. g (omega (arith, eqb-false (note_at pages c) 0 q)))
 
+-- one's own root, or another
+pub not_own : (own : OptionOf ℕ) (i : ℕ) → (own ≡ Some i → ⊥) → is_own own i ≡ false
+not_own None i f = refl
+not_own (Some o) i f = ne_eqb i o (λ q. f (ap (λ (x : ℕ). Some x) (sym q)))
+
+pub is_other : (own : OptionOf ℕ) (i : ℕ) → is_own own i ≡ false → own ≡ Some i → ⊥
+is_other own i h e = eqb-false i i (subst (λ (o : OptionOf ℕ). is_own o i ≡ false) e h) refl
+
+-- the test of a position
+pub is_mine : (own : OptionOf ℕ) (i : ℕ) → option_eq eqb own (Some i) ≡ true → own ≡ Some i
+is_mine None i h = absurd (false≢true h)
+is_mine (Some o) i h = ap (λ (x : ℕ). Some x) (eqb-true o i h)
+
+pub not_mine : (own : OptionOf ℕ) (i : ℕ) → option_eq eqb own (Some i) ≡ false → own ≡ Some i → ⊥
+not_mine None i h e = none-some i e
+not_mine (Some o) i h e = eqb-false o i h (same_Some o i e)
+
 -- ---- the others, one after the other
-pub no_others : (s p roots : List ℕ) (n own : ℕ) (pages : List ℕ) → ((c : ℕ) → c < n → note_at pages c ≡ 0) → OthersJudged s p roots n own 0 pages
+pub no_others : (s p roots : List ℕ) (n : ℕ) (own : OptionOf ℕ) (pages : List ℕ) → ((c : ℕ) → c < n → note_at pages c ≡ 0) → OthersJudged s p roots n own 0 pages
 no_others s p roots n own pages f = record {
   right = λ j h. absurd (omega arith);
   noted = λ j h. absurd (omega arith);
   reached = λ c h k. absurd (omega (arith, f c h));
 }
 
-module _ {s p roots : List ℕ} {n own i : ℕ} {pages : List ℕ} (u : OthersJudged s p roots n own i pages) where
-  pub own_left_out : i ≡ own → OthersJudged s p roots n own (i + 1) pages
+module _ {s p roots : List ℕ} {n : ℕ} {own : OptionOf ℕ} {i : ℕ} {pages : List ℕ} (u : OthersJudged s p roots n own i pages) where
+  pub own_left_out : own ≡ Some i → OthersJudged s p roots n own (i + 1) pages
   own_left_out e = record {
-    right = λ j h f. u.right j (omega (arith, f, e)) f;
-    noted = λ j h f. u.noted j (omega (arith, f, e)) f;
+    right = λ j h f. up_to i j h (λ l. u.right j l f) (λ q. absurd (f (e ∙ ap (λ (x : ℕ). Some x) (sym q))));
+    noted = λ j h f. up_to i j h (λ l. u.noted j l f) (λ q. absurd (f (e ∙ ap (λ (x : ℕ). Some x) (sym q))));
     reached = λ c h k. let w = u.reached c h k in (w.0, (w.1.0, omega (arith, w.1.1), w.1.2, w.1.3));
   }
 
-  module _ {counts pages' counts' : List ℕ} (j : RootJudged p n (root_digest s p roots i) 1 pages counts pages' counts') (f : i ≡ own → ⊥) where
+  module _ {counts pages' counts' : List ℕ} (j : RootJudged p n (root_digest s p roots i) 1 pages counts pages' counts') (f : own ≡ Some i → ⊥) where
     pub others_more : OthersJudged s p roots n own (i + 1) pages'
     others_more = record {
       right = λ k h g. up_to i k h (λ l. u.right k l g) (λ e. rw e j.right);
@@ -113,25 +133,26 @@ module _ {s p roots : List ℕ} {n own i : ℕ} {pages : List ℕ} (u : OthersJu
     }
 
 -- ---- all
-module _ {s p labels roots : List ℕ} {count own n : ℕ} {pages counts : List ℕ} (b : Bytes p) (u : OthersJudged s p roots n own count pages)
+module _ {s p labels roots : List ℕ} {count : ℕ} {own : OptionOf ℕ} {n : ℕ} {pages counts : List ℕ} (b : Bytes p) (u : OthersJudged s p roots n own count pages)
     (v : Summings s p labels pages counts n (raws_in p)) where
   by_other : (c : ℕ) → c < n → ReachedByOther s p roots own count (bytes_at (raws_in p) c) → 1 ≤ note_at pages c
   by_other c h w = noted_on v b (root_digest s p roots w.0) (u.noted w.0 w.1 w.2) c h w.3
 
-  pub without_own : count ≤ own → RootsJudged s p labels roots count own n pages
+  pub without_own : own ≡ None → RootsJudged s p labels roots count own n pages
   without_own l = record {
     notes = notes_of v b;
-    right = λ j h. u.right j h (λ e. omega arith);
+    right = λ j h. u.right j h (λ e. none-some j (sym l ∙ e));
     reached = λ c h k. let w = (u.reached c h k).1 in (w.0, w.1, w.3);
-    noted = λ c h j g r. by_other c h (j, g, (λ e. omega arith), r);
+    noted = λ c h j g r. by_other c h (j, g, (λ e. none-some j (sym l ∙ e)), r);
     marked = λ c h k m. (u.reached c h k).1;
     unmarked = λ c h w. (u.reached c h (by_other c h w)).0;
   }
 
-  module _ {pages' counts' : List ℕ} (there : own < count) (j : RootJudged p n (root_digest s p roots own) 0 pages counts pages' counts')
+  module _ {pages' counts' : List ℕ} {mine : ℕ} (is : own ≡ Some mine) (there : mine < count)
+      (j : RootJudged p n (root_digest s p roots mine) 0 pages counts pages' counts')
       (v' : Summings s p labels pages' counts' n (raws_in p)) where
-    own-or {κ} : {C : Type κ} (k : ℕ) → (k ≡ own → C) → ((k ≡ own → ⊥) → C) → C
-    own-or k f g = cases (eqb k own) (λ q. f (eqb-true k own q)) (λ q. g (eqb-false k own q))
+    own-or {κ} : {C : Type κ} (k : ℕ) → (k ≡ mine → C) → ((own ≡ Some k → ⊥) → C) → C
+    own-or k f g = cases (eqb k mine) (λ q. f (eqb-true k mine q)) (λ q. g (λ e. eqb-false k mine q (sym (same_Some mine k (sym is ∙ e)))))
 
     pub with_own : RootsJudged s p labels roots count own n pages'
     with_own = record {
@@ -139,7 +160,7 @@ module _ {s p labels roots : List ℕ} {count own n : ℕ} {pages counts : List 
       right = λ k h. own-or k (λ e. rw e j.right) (λ f. u.right k h f);
       reached = λ c h k.
           noted-or pages c
-          (λ z. (own, there, (j.grown.fresh c h z k).1))
+          (λ z. (mine, there, (j.grown.fresh c h z k).1))
           (λ o. let w = (u.reached c h o).1 in (w.0, w.1, w.3));
       noted = λ c h k g r.
           noted_on v' b (root_digest s p roots k)
@@ -196,7 +217,7 @@ module _ (s p labels : List ℕ) (n : ℕ) (digest : List ℕ) (mark : ℕ) (pag
   root_wrong true pages' counts' keys' tags' last' w q = absurd (false≢true q)
   root_wrong false pages' counts' keys' tags' last' w q = w
 
-module _ (s p labels roots : List ℕ) (count own n : ℕ) where
+module _ (s p labels roots : List ℕ) (count : ℕ) (own : OptionOf ℕ) (n : ℕ) where
   pub others_right : (r : Bool) (pages' counts' keys' tags' last' : List ℕ)
       → OthersSay s p labels roots count own n r pages' counts' keys' tags' last' → not r ≡ false
       → OthersJudged s p roots n own count pages' × Judging s p labels pages' counts' keys' tags' last' n
@@ -224,11 +245,11 @@ module _ (s p labels roots : List ℕ) (count own n : ℕ) where
 
   -- one's own root, after the others
   pub own_says : {pages counts : List ℕ} → Bytes p → OthersJudged s p roots n own count pages → Summings s p labels pages counts n (raws_in p)
-      → own < count → (r : Bool) (pages' counts' keys' tags' last' : List ℕ)
-      → WordSays s p labels n (root_digest s p roots own) 0 pages counts r pages' counts' keys' tags' last'
+      → (mine : ℕ) → own ≡ Some mine → mine < count → (r : Bool) (pages' counts' keys' tags' last' : List ℕ)
+      → WordSays s p labels n (root_digest s p roots mine) 0 pages counts r pages' counts' keys' tags' last'
       → JudgedSays s p labels roots count own n r pages'
-  own_says b u v h true pages' counts' keys' tags' last' w = with_own b u v h w.0 w.1.summings
-  own_says b u v h false pages' counts' keys' tags' last' w = (own, h, w)
+  own_says b u v mine e h true pages' counts' keys' tags' last' w = with_own b u v e h w.0 w.1.summings
+  own_says b u v mine e h false pages' counts' keys' tags' last' w = (mine, h, w)
 
 -- the counts, keys and tags that the judging begins with
 pub nothing_summed : {s p labels pages roots : List ℕ} {count n : ℕ} (g : Rooted s p labels pages roots count n) (counts keys tags last : List ℕ)

@@ -1,13 +1,13 @@
 -- The keys of states, and the position of one.
-use Rattle.std.specs.Prelude.{Result, Ok, Err}
-use Prim.Native.Nat.{ℕ, zero, suc, ◌+◌, ◌<◌}
+use Rattle.std.specs.Prelude.{Result, Ok, Err, Some, None}
+use Prim.Native.Nat.{ℕ, zero, suc, ◌<◌}
 use mathlib.Core.Path.{◌≡◌, sym, ap, ◌∙◌}
 use mathlib.Core.Bool.{true, false}
 use mathlib.Core.List.{List, [], ◌∷◌, ◌++◌}
 use native.Mathlib.Omega.{arith}
 use lib.Dec.{eqb, ltb}
 use lib.ListN.{length, take, drop, take-append-drop, length-append}
-use borrow.Author.Tests.{eqb-true, eqb-false, ltb-true, ltb-false, ne_eqb}
+use borrow.Author.Tests.{eqb-true, eqb-false, ltb-true, ltb-false}
 use borrow.Table.Steps.{cases}
 use Rattle.bytestring.specs.Bytes.{Bytes, equal}
 use Rattle.bytestring.proofs.Equal.{equal_refl, equal-cases}
@@ -99,7 +99,7 @@ module _ {s index : List ℕ} {count : ℕ} (b : Bytes s) (k : List ℕ) (r : Re
     sorted : Sorted (records a.tree)
     sorted = rising_sorted (records a.tree) (accepted_table s b a.tree a.judged).fit.order
 
-  pub own_found : (position place : ℕ) → r ≡ Ok (position, place) → OwnSays s index count k position
+  pub own_found : (position place : ℕ) → r ≡ Ok (position, place) → OwnSays s index count k (Some position)
   own_found position place e a i h =
       let here : (position < length (records a.tree)) × (key_at (records a.tree) position ≡ k) × (position ≡ count_below k (records a.tree)) =
       rw e at (found a) in
@@ -114,8 +114,14 @@ module _ {s index : List ℕ} {count : ℕ} (b : Bytes s) (k : List ℕ) (r : Re
       let later : position < i = omega (arith, ltb-false i position l, eqb-false i position q) in
       before_other (key position) (key i) (sorted_at (records a.tree) (sorted a) position i later (omega (arith, a.size))) (here.1 ∙ f)))))
 
-  pub own_absent : (position : ℕ) → r ≡ Err position → OwnSays s index count k count
+  pub own_within : (position place : ℕ) → r ≡ Ok (position, place) → AcceptedIndex s index count → position < count
+  own_within position place e a =
+      let here : (position < length (records a.tree)) × (key_at (records a.tree) position ≡ k) × (position ≡ count_below k (records a.tree)) =
+      rw e at (found a) in
+      omega (arith, here.0, a.size)
+
+  pub own_absent : (position : ℕ) → r ≡ Err position → OwnSays s index count k None
   own_absent position e a i h =
       let here : (position ≡ count_below k (records a.tree)) × (position ≡ count_up_to k (records a.tree)) = rw e at (found a) in
       let none = not_there k (records a.tree) (sorted a) (sym here.0 ∙ here.1) in
-      rw (ne_eqb i count (λ q. omega arith)) (all_at (λ x. equal k x.key ≡ false) nothing (records a.tree) none i (omega (arith, a.size)))
+      all_at (λ x. equal k x.key ≡ false) nothing (records a.tree) none i (omega (arith, a.size))

@@ -1,6 +1,6 @@
 -- The verdict on two buffers: the numbers of the pages by themselves, and number 18.
 use Rattle.std.specs.Prelude.{Result, Ok, Err}
-use Prim.Native.Nat.{ℕ, ◌+◌, ◌≤◌, ◌<◌}
+use Prim.Native.Nat.{ℕ, ◌≤◌, ◌<◌}
 use mathlib.Core.Path.{◌≡◌, refl, sym, ap, ◌∙◌}
 use mathlib.Core.Bool.{Bool, true, false, not, false≢true}
 use mathlib.Core.Option.{none, some}
@@ -17,7 +17,7 @@ use Rattle.limits.specs.Limits.{longest}
 use Rattle.page.specs.Reading.{read, ends_early, departs, concat}
 use Rattle.page.specs.Page.{RawPage, page_bytes}
 use Rattle.page.proofs.Pages.{GoodPage}
-use Rattle.page_reader.specs.Place.{read_stop}
+use Rattle.page_reader.specs.Place.{refusal_of, read_stop}
 use Rattle.page_reader.specs.declared.Stop.{Stop}
 use Rattle.page_reader.specs.declared.Stop.TheVariants.{EndsEarly as StopEarly, Departs as StopDeparts}
 use Rattle.tree.specs.Record.{Record, records}
@@ -97,11 +97,9 @@ module _ (p words pages : List ℕ) (r : Result (ℕ × ℕ) Stop) (says : Seque
   read_stopped stop e = rw e at says
 
 module _ (p words pages : List ℕ) (r : Result (ℕ × ℕ) Stop) (says : SequenceSays p r words pages) (h : length p ≤ longest) where
-  pub read_early : (stop : Stop) → r ≡ Err stop → stop ≡ StopEarly → (t : SpeltTree) → judge_with_pages (accepted t) p ≡ refused_states EndsEarly
-  read_early stop e f t = stops_early p t h (read_stopped p words pages r says stop e ∙ rw f)
-
-  pub read_departs : (stop : Stop) → r ≡ Err stop → stop ≡ StopDeparts → (t : SpeltTree) → judge_with_pages (accepted t) p ≡ refused_states Departs
-  read_departs stop e f t = stops_departing p t h (read_stopped p words pages r says stop e ∙ rw f)
+  pub read_refused : (stop : Stop) → r ≡ Err stop → (why : Refusal) → why ≡ refusal_of stop → (t : SpeltTree) → judge_with_pages (accepted t) p ≡ refused_states why
+  read_refused StopEarly e why w t = rw w (stops_early p t h (read_stopped p words pages r says StopEarly e))
+  read_refused StopDeparts e why w t = rw w (stops_departing p t h (read_stopped p words pages r says StopDeparts e))
 
   pub read_too_many : (n m : ℕ) → r ≡ Ok (n, m) → most_pages < n → (t : SpeltTree) → judge_with_pages (accepted t) p ≡ refused_states WrongStates
   read_too_many n m e g t =

@@ -1,6 +1,6 @@
 -- What contracts inside this crate cite, and no public contract does.
 use Rattle.answer.specs.declared.Refusal.{Refusal}
-use Rattle.std.specs.Prelude.{ℕ, ◌+◌, ◌≤◌, ◌<◌, ◌≡◌, Bool, true, false, ◌&&◌, List, [], length, get_or, eqb, Result, Ok, Err}
+use Rattle.std.specs.Prelude.{ℕ, ◌+◌, ◌≤◌, ◌<◌, ◌≡◌, Bool, true, false, ◌&&◌, List, [], length, get_or, eqb, Result, Ok, Err, Option, Some, None}
 use Rattle.answer.specs.declared.Refusal.TheVariants.{WrongStates}
 use Rattle.bytestring.specs.Bytes.{equal}
 use Rattle.limits.specs.Limits.{longest, longest_key}
@@ -67,10 +67,14 @@ RootsSay s index count words m true roots words' =
 RootsSay s index count words m false roots words' =
     (a : AcceptedIndex s index count) → (j : ℕ) × (j < count) × (is_state (get_or (records a.tree) j nothing) ≡ false)
 
--- The record at this position has the key, and no other has.
-abbrev pub OwnSays : List ℕ → List ℕ → ℕ → List ℕ → ℕ → Type 0
+-- The record at this position, if there is one, has the key, and no other has.
+abbrev pub is_own : Option ℕ → ℕ → Bool
+is_own None i = false
+is_own (Some own) i = eqb i own
+
+abbrev pub OwnSays : List ℕ → List ℕ → ℕ → List ℕ → Option ℕ → Type 0
 OwnSays s index count k own =
-    (a : AcceptedIndex s index count) → (i : ℕ) → i < count → equal k (key_at (records a.tree) i) ≡ eqb i own
+    (a : AcceptedIndex s index count) → (i : ℕ) → i < count → equal k (key_at (records a.tree) i) ≡ is_own own i
 
 -- ---- filing
 -- The pages of a sequence p by their words, and so many words of links in whatever order, among them all links of the pages.
@@ -117,13 +121,13 @@ WordSays s p labels n digest mark pages counts true pages' counts' keys' tags' l
 WordSays s p labels n digest mark pages counts false pages' counts' keys' tags' last' = is_root (file_of p) digest ≡ false
 
 -- A page is reached from one of the first i roots other than one's own.
-abbrev pub ReachedByOther : List ℕ → List ℕ → List ℕ → ℕ → ℕ → List ℕ → Type 0
-ReachedByOther s p roots own i q = (j : ℕ) × (j < i) × (j ≡ own → ⊥) × ReachedFrom (file_of p) (root_digest s p roots j) q
+abbrev pub ReachedByOther : List ℕ → List ℕ → List ℕ → Option ℕ → ℕ → List ℕ → Type 0
+ReachedByOther s p roots own i q = (j : ℕ) × (j < i) × (own ≡ Some j → ⊥) × ReachedFrom (file_of p) (root_digest s p roots j) q
 
 -- The first i roots other than one's own were judged, with mark 1.
-pub record OthersJudged (s p roots : List ℕ) (n own i : ℕ) (pages : List ℕ) : Type 0 where
-  pub right : (j : ℕ) → j < i → (j ≡ own → ⊥) → is_root (file_of p) (root_digest s p roots j) ≡ true
-  pub noted : (j : ℕ) → j < i → (j ≡ own → ⊥) → JudgedAt p n pages (root_digest s p roots j)
+pub record OthersJudged (s p roots : List ℕ) (n : ℕ) (own : Option ℕ) (i : ℕ) (pages : List ℕ) : Type 0 where
+  pub right : (j : ℕ) → j < i → (own ≡ Some j → ⊥) → is_root (file_of p) (root_digest s p roots j) ≡ true
+  pub noted : (j : ℕ) → j < i → (own ≡ Some j → ⊥) → JudgedAt p n pages (root_digest s p roots j)
   pub reached : (c : ℕ) → c < n → 1 ≤ note_at pages c
       → (page_mark (get_or pages c 0) ≡ 1) × ReachedByOther s p roots own i (bytes_at (raws_in p) c)
 
@@ -131,13 +135,13 @@ pub record OthersJudged (s p roots : List ℕ) (n own i : ℕ) (pages : List ℕ
 abbrev pub SomeWrong : List ℕ → List ℕ → List ℕ → ℕ → Type 0
 SomeWrong s p roots count = (j : ℕ) × (j < count) × (is_root (file_of p) (root_digest s p roots j) ≡ false)
 
-abbrev pub OthersSay : List ℕ → List ℕ → List ℕ → List ℕ → ℕ → ℕ → ℕ → Bool → List ℕ → List ℕ → List ℕ → List ℕ → List ℕ → Type 0
+abbrev pub OthersSay : List ℕ → List ℕ → List ℕ → List ℕ → ℕ → Option ℕ → ℕ → Bool → List ℕ → List ℕ → List ℕ → List ℕ → List ℕ → Type 0
 OthersSay s p labels roots count own n true pages' counts' keys' tags' last' =
     OthersJudged s p roots n own count pages' × Judging s p labels pages' counts' keys' tags' last' n
 OthersSay s p labels roots count own n false pages' counts' keys' tags' last' = SomeWrong s p roots count
 
 -- All roots were judged: what they reach is noted, and has mark 1 where another than one's own reaches it.
-pub record RootsJudged (s p labels roots : List ℕ) (count own n : ℕ) (pages : List ℕ) : Type 0 where
+pub record RootsJudged (s p labels roots : List ℕ) (count : ℕ) (own : Option ℕ) (n : ℕ) (pages : List ℕ) : Type 0 where
   pub notes : Notes s p labels pages n (raws_in p)
   pub right : (j : ℕ) → j < count → is_root (file_of p) (root_digest s p roots j) ≡ true
   pub reached : (c : ℕ) → c < n → 1 ≤ note_at pages c
@@ -147,7 +151,7 @@ pub record RootsJudged (s p labels roots : List ℕ) (count own n : ℕ) (pages 
   pub marked : (c : ℕ) → c < n → 1 ≤ note_at pages c → page_mark (get_or pages c 0) ≡ 1 → ReachedByOther s p roots own count (bytes_at (raws_in p) c)
   pub unmarked : (c : ℕ) → c < n → ReachedByOther s p roots own count (bytes_at (raws_in p) c) → page_mark (get_or pages c 0) ≡ 1
 
-abbrev pub JudgedSays : List ℕ → List ℕ → List ℕ → List ℕ → ℕ → ℕ → ℕ → Bool → List ℕ → Type 0
+abbrev pub JudgedSays : List ℕ → List ℕ → List ℕ → List ℕ → ℕ → Option ℕ → ℕ → Bool → List ℕ → Type 0
 JudgedSays s p labels roots count own n true pages' = RootsJudged s p labels roots count own n pages'
 JudgedSays s p labels roots count own n false pages' = SomeWrong s p roots count
 

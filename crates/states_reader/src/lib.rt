@@ -20,11 +20,13 @@ use filing::file_pages;
 use judge::judge;
 use limits::{LONGEST, MOST};
 use links::sort_words;
-use page_reader::Stop;
 use sequence::note_sequence;
 
 // The most pages of a sequence whose digests rise: 47 bytes each, and one empty page of 7.
 const MOST_PAGES: usize = 89_241;
+
+// So many keys are kept while records are read, and while trees are judged.
+const KEPT: usize = 64;
 
 // Numbers 1 to 10 of the states, and their index. The row of chains is not kept.
 fn index_states(states: &[u8], index: &mut [u64]) -> Result<usize, Refusal>
@@ -32,10 +34,8 @@ fn index_states(states: &[u8], index: &mut [u64]) -> Result<usize, Refusal>
     ensures { IndexSays states.now result index.new }
 {
     let mut chains = [0u64; 2 * MOST];
-    match judge(states, index, &mut chains) {
-        Ok((count, _)) => Ok(count),
-        Err(refusal) => Err(refusal),
-    }
+    let (count, _) = judge(states, index, &mut chains)?;
+    Ok(count)
 }
 
 // Numbers 1, 3 and 2 of the pages, and their places and links. Where there are more pages than digests can rise, number 18 is due.
@@ -49,18 +49,11 @@ fn note_pages(
     if LONGEST < sequence.len() {
         return Err(Refusal::TooLong);
     }
-    match note_sequence(sequence, words, pages) {
-        Ok((n, m)) => {
-            if MOST_PAGES < n {
-                return Err(Refusal::WrongStates);
-            }
-            Ok((n, m))
-        }
-        Err(stop) => match stop {
-            Stop::EndsEarly => Err(Refusal::EndsEarly),
-            Stop::Departs => Err(Refusal::Departs),
-        },
+    let (n, m) = note_sequence(sequence, words, pages)?;
+    if MOST_PAGES < n {
+        return Err(Refusal::WrongStates);
     }
+    Ok((n, m))
 }
 
 // Files the pages under the words of links, which stand in whatever order. Whether words and pages match.

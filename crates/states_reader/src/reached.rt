@@ -1,20 +1,16 @@
 // The trees under the roots: each is judged, and what it reaches is noted.
-ghost use Rattle.std.specs.Prelude.{[], ◌≤◌, ◌<◌, length};
+ghost use Rattle.std.specs.Prelude.{[], IfSome, ◌≤◌, ◌<◌, length};
 ghost use Rattle.links.specs.Links.{Names};
 ghost use Rattle.filing.specs.Filed.{link_named};
 ghost use Rattle.summing.specs.Inner.{LeadsOn};
 ghost use Rattle.states_reader.specs.Inner.{Rooted, Judging, WordSays, OthersSay, JudgedSays, AllNoted};
 
+use crate::{KEPT, MOST_PAGES};
 use limits::LONGEST_KEY;
 use links::find_word;
-use summing::judge_root;
+use summing::{judge_root, word_note};
 
-// A page's word holds its place below this number and its note above it.
-const PLACES: u32 = 0x40_0000;
-
-const NOTES: u32 = 256;
-
-// Whether the digest that a word names is that of a root.
+// Whether the digest that a word names is that of a root. The parts are passed one by one, as to `judge_root`, whose contract names each.
 fn judge_word(
     states: &[u8],
     sequence: &[u8],
@@ -44,7 +40,7 @@ fn judge_others(
     sequence: &[u8],
     roots: &[u32],
     count: usize,
-    own: usize,
+    own: Option<usize>,
     labels: &[u32],
     n: usize,
     pages: &mut [u32],
@@ -56,18 +52,15 @@ fn judge_others(
     requires { Rooted states.now sequence.now labels.now pages.old roots.now count n × Judging states.now sequence.now labels.now pages.old counts.old keys.old tags.old last.old n }
     ensures { OthersSay states.now sequence.now labels.now roots.now count own n result pages.new counts.new keys.new tags.new last.new }
 {
-    let mut i = 0;
-    while i < count {
-        if i == own {
-            i += 1;
-        } else {
-            let word = roots[i];
-            if !judge_word(
-                states, sequence, labels, n, pages, counts, keys, tags, last, word, 1,
-            ) {
-                return false;
-            }
-            i += 1;
+    for i in 0..count {
+        if own == Some(i) {
+            continue;
+        }
+        let word = roots[i];
+        if !judge_word(
+            states, sequence, labels, n, pages, counts, keys, tags, last, word, 1,
+        ) {
+            return false;
         }
     }
     true
@@ -79,17 +72,17 @@ pub(crate) fn judge_roots(
     sequence: &[u8],
     roots: &[u32],
     count: usize,
-    own: usize,
+    own: Option<usize>,
     labels: &[u32],
     n: usize,
     pages: &mut [u32],
 ) -> bool
-    requires { Rooted states.now sequence.now labels.now pages.old roots.now count n }
+    requires { Rooted states.now sequence.now labels.now pages.old roots.now count n × IfSome own (λ o. o < count) }
     ensures { JudgedSays states.now sequence.now labels.now roots.now count own n result pages.new }
 {
-    let mut counts = [0u16; 89241];
-    let mut keys = [0u8; 16384];
-    let mut tags = [0u32; 64];
+    let mut counts = [0u16; MOST_PAGES];
+    let mut keys = [0u8; KEPT * LONGEST_KEY];
+    let mut tags = [0u32; KEPT];
     let mut last = [0u8; LONGEST_KEY];
     if !judge_others(
         states,
@@ -107,10 +100,10 @@ pub(crate) fn judge_roots(
     ) {
         return false;
     }
-    if count <= own {
+    let Some(position) = own else {
         return true;
-    }
-    let word = roots[own];
+    };
+    let word = roots[position];
     judge_word(
         states,
         sequence,
@@ -131,12 +124,10 @@ pub(crate) fn all_noted(pages: &[u32], n: usize) -> bool
     requires { n ≤ length pages.now }
     ensures { AllNoted pages.now n result }
 {
-    let mut c = 0;
-    while c < n {
-        if pages[c] / PLACES % NOTES == 0 {
+    for c in 0..n {
+        if word_note(pages[c]) == 0 {
             return false;
         }
-        c += 1;
     }
     true
 }

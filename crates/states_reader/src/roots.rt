@@ -1,18 +1,18 @@
 // The records of the state register, whose values name the roots of the states' trees.
-ghost use Rattle.std.specs.Prelude.{◌≡◌, true, ◌+◌, ◌≤◌, length};
+ghost use Rattle.std.specs.Prelude.{◌≡◌, true, IfSome, ◌+◌, ◌≤◌, ◌<◌, length};
 ghost use Rattle.bytestring.specs.Bytes.{equal};
 ghost use Rattle.key.specs.Key.{collection, lawful};
 ghost use Rattle.states.specs.States.{state_collection};
 ghost use Rattle.index.specs.Accepted.{AcceptedIndex};
 ghost use Rattle.states_reader.specs.Inner.{RootsSay, OwnSays};
 
+use crate::KEPT;
 use bytestring::same_bytes;
+use limits::LONGEST_KEY;
+use links::FROM_FIRST;
 use row::recall::recall;
 use row::search::search;
 use value::{DAG_CBOR, codec_at};
-
-// The words from here on name digests in the states.
-const FROM_STATES: u32 = 0x100_0000;
 
 // The bytes that the keys of states begin with.
 const BEGIN: usize = 6;
@@ -40,10 +40,9 @@ pub(crate) fn note_roots(
     requires { AcceptedIndex states.now index.now count × (count ≤ length roots.old) × (m + count ≤ length words.old) }
     ensures { RootsSay states.now index.now count words.old m result roots.new words.new }
 {
-    let mut keys = [0u8; 16384];
-    let mut notes = [0u64; 64];
-    let mut i = 0;
-    while i < count {
+    let mut keys = [0u8; KEPT * LONGEST_KEY];
+    let mut notes = [0u64; KEPT];
+    for i in 0..count {
         let found = recall(states, states, index[i], 0, &mut keys, &mut notes);
         let from = found.from;
         let to = from + found.size;
@@ -54,21 +53,22 @@ pub(crate) fn note_roots(
         if codec_at(states, value) != DAG_CBOR {
             return false;
         }
-        let word = FROM_STATES + value as u32;
+        // The states are the first string.
+        let word = FROM_FIRST + value as u32;
         roots[i] = word;
         words[m + i] = word;
-        i += 1;
     }
     true
 }
 
-// The position of the key's record; the count of records where there is none.
-pub(crate) fn own_position(states: &[u8], index: &[u64], count: usize, key: &[u8]) -> usize
+// The position of the key's record, if there is one.
+pub(crate) fn own_position(states: &[u8], index: &[u64], count: usize, key: &[u8]) -> Option<usize>
     requires { AcceptedIndex states.now index.now count }
-    ensures { OwnSays states.now index.now count key.now result }
+    ensures says { OwnSays states.now index.now count key.now result }
+    ensures within { IfSome result (λ own. own < count) }
 {
-    match search(states, index, count, key) {
-        Ok((position, _)) => position,
-        Err(_) => count,
-    }
+    let Ok((position, _)) = search(states, index, count, key) else {
+        return None;
+    };
+    Some(position)
 }

@@ -28,7 +28,7 @@ use Rattle.summaries.specs.Summary.{Tally, agrees, with_key, after_gap, after_en
 use Rattle.summaries.proofs.Tallies.{then_taken, entries_agree}
 use Rattle.tree_keys.proofs.Firsts.{link_is}
 use Rattle.summing.specs.Summed.{Reaching}
-use Rattle.summing.specs.Inner.{raws_in, tree_under, Underway, Tallied, LeadsOn, JudgedAt, CarriesOn, BeforeGap, GapTold, GapAsked, EntriesTold, EntriesAsked, key_stands, KeyAsked, KeySays}
+use Rattle.summing.specs.Inner.{raws_in, tree_under, Underway, Tallied, LeadsOn, JudgedAt, CarriesOn, BeforeGap, GapTold, GapAsked, EntriesTold, EntriesAsked, key_stands, KeyAsked, KeyTaken, KeySays}
 use Rattle.summing.specs.declared.PartSum.{PartSum}
 use Rattle.summing.proofs.Tallies.{entries_grow, entry_grows, entry_goes_on, entry_fails, key_agrees}
 use Rattle.summing.proofs.Reaching.{reaching_none, reaching_then, judged_stays}
@@ -46,7 +46,6 @@ underway_last u last₁ e = record { bytes = u.bytes; summings = u.summings; kep
 -- i of the entries are judged and the next stands at a place: what is left leads from the tally so far to what all lead to.
 pub record SummedSoFar (s p labels : List ℕ) (n : ℕ) (pages₀ counts₀ last₀ : List ℕ) (start : PartSum) (first entries layer mark : ℕ)
     (pages counts keys tags last buffer : List ℕ) (size : ℕ) (cur : PartSum) (at i : ℕ) : Type 0 where
-  pub turns : i ≤ entries
   pub under : Underway s p labels pages counts n keys tags last
   pub there : at ≤ length p
   pub room : length buffer ≡ suc longest_key
@@ -72,7 +71,6 @@ pub entries_begin : {s p labels pages counts : List ℕ} {n : ℕ} {keys tags la
     → Underway s p labels pages counts n keys tags last → EntriesAsked p n first entries start.count layer mark → length buffer ≡ suc longest_key
     → SummedSoFar s p labels n pages counts last start first entries layer mark pages counts keys tags last buffer 0 start first 0
 entries_begin {s} {p} {labels} {pages} {counts} {n} {keys} {tags} {last} {first} {entries} {layer} {mark} start buffer under asked room = record {
-  turns = omega arith;
   under = under;
   there = asked.there;
   room = room;
@@ -193,25 +191,29 @@ module _ {s p labels : List ℕ} {n : ℕ} {pages₀ counts₀ last₀ : List �
       }
 
       -- its key was tested
-      module _ (size₁ : ℕ) (buffer₁ last₁ : List ℕ) (says : KeySays buffer size p e last cur.size layer size₁ buffer₁ last₁) where
-        pub key_fails : size₁ ≡ 0
+      module _ (got : OptionOf ℕ) (buffer₁ last₁ : List ℕ) (says : KeySays buffer size p e last cur.size layer got buffer₁ last₁) where
+        pub key_fails : got ≡ None
             → EntriesTold s p labels n pages₀ counts₀ last₀ start.size first entries start.count layer mark None pages counts keys tags last
         key_fails z =
+            let wrong = subst (λ (r : OptionOf ℕ). KeySays buffer size p e last cur.size layer r buffer₁ last₁) z says in
             fails (λ t w u q a few.
             let k = then_taken (after_entry (tree_under p) so_far.before (entry_at p e) t) (after_entries (tree_under p) key later) u (sym (one_then t) ∙ q) in
             entry_fails so_far.before (entry_at p e) t layer (tree_under p)
-            (says.wrong z so_far.before so_far.holds so_far.short t.last w.latest) k.between k.there
+            (wrong so_far.before so_far.holds so_far.short t.last w.latest) k.between k.there
             (entries_agree layer (tree_under p) key later k.between u k.after a))
 
-        module _ (taken : size₁ ≡ 0 → ⊥) (room : length buffer₁ ≡ suc longest_key) (long : length last₁ ≡ longest_key) where
+        module _ (size₁ : ℕ) (is : got ≡ Some size₁) (room : length buffer₁ ≡ suc longest_key) (long : length last₁ ≡ longest_key) where
+          taken : KeyTaken buffer size p e last cur.size layer size₁ buffer₁ last₁
+          taken = subst (λ (r : OptionOf ℕ). KeySays buffer size p e last cur.size layer r buffer₁ last₁) is says
+
           held : HoldsKey buffer₁ size₁ key
-          held = says.holds taken so_far.before so_far.holds
+          held = taken.holds so_far.before so_far.holds
 
           stands : (t : Tally) → Tallied layer cur.count last cur.size t → key_stands so_far.before (entry_at p e) t.last layer ≡ true
-          stands t w = says.right taken so_far.before so_far.holds t.last w.latest
+          stands t w = taken.right so_far.before so_far.holds t.last w.latest
 
           is_last : LastIs last₁ size₁ key
-          is_last = record { room = omega (arith, says.short); bytes = says.same taken ∙ holds_whole held (omega (arith, says.short)) }
+          is_last = record { room = omega (arith, taken.short); bytes = taken.same ∙ holds_whole held (omega (arith, taken.short)) }
 
           -- the tally with the record
           with_key_lem : (t : Tally) → Tallied layer cur.count last cur.size t → BeforeGap layer (cur.count + 1) last₁ size₁ (with_key key t)
@@ -221,7 +223,7 @@ module _ {s p labels : List ℕ} {n : ℕ} {pages₀ counts₀ last₀ : List �
               agree = key_agrees so_far.before (entry_at p e) t layer (tree_under p) (stands t w);
               latest = is_last;
             },
-            λ z. absurd (taken z),
+            λ z. absurd (omega (arith, taken.some_bytes so_far.before so_far.holds t.last w.latest)),
           )
 
           goes_on : (t : Tally) → Tallied layer cur.count last cur.size t
@@ -262,8 +264,8 @@ module _ {s p labels : List ℕ} {n : ℕ} {pages₀ counts₀ last₀ : List �
           entry_asks h = record {
             leads = λ z. so_far.leads (digest_in p e.link) (link_among (digest_in p e.link) (link_first (λ y. omega arith)));
             within = λ z. omega (arith, found.ends.link z, found.ends.value, found.within);
-            room = omega (arith, says.short);
-            same = says.same taken;
+            room = omega (arith, taken.short);
+            same = taken.same;
             few = omega arith;
             low = so_far.low;
             marked = so_far.marked;
@@ -279,7 +281,6 @@ module _ {s p labels : List ℕ} {n : ℕ} {pages₀ counts₀ last₀ : List �
               let grew : (digest : List ℕ) → CarriesOn p (links_after so_far.all) digest → Reaching (raws_in p) n mark digest pages counts pages' counts' =
               λ digest f. whole.grown digest (λ d q j r. f d q (so_far.links d (link_among d j)) r) in
               record {
-                turns = omega arith;
                 under = whole.underway;
                 there = found.within;
                 room = room;
@@ -288,7 +289,7 @@ module _ {s p labels : List ℕ} {n : ℕ} {pages₀ counts₀ last₀ : List �
                 marked = so_far.marked;
                 before = key;
                 holds = held;
-                short = omega (arith, held.size, says.short);
+                short = omega (arith, held.size, taken.short);
                 all = so_far.all;
                 left = later;
                 past = so_far.past;

@@ -25,7 +25,7 @@ use Rattle.tree.specs.OnePage.{key_after}
 use Rattle.summaries.specs.Summary.{passes}
 use Rattle.tree_keys.specs.Ends.{FirstSays}
 use Rattle.tree_keys.specs.declared.KeyAt.{KeyAt}
-use Rattle.summing.specs.Inner.{LastOf, KeyHolds, key_stands, KeyAsked, KeySays, FirstFollows}
+use Rattle.summing.specs.Inner.{LastOf, KeyHolds, key_stands, KeyAsked, KeyTaken, KeyWrong, FirstFollows}
 
 lawful_some : (k : List ℕ) → lawful k ≡ true → 0 < length k
 unfolding lawful
@@ -76,20 +76,14 @@ module _ (buffer : List ℕ) (size : ℕ) (p : List ℕ) (e : EntryAt) (last : L
   spelt k = key_after k (entry_at p e)
 
   module _ (fits : Bool) (tested : PrefixIs buffer size p e.shares e.remainder e.size fits) (short : fits ≡ true → e.shares < length buffer) where
-    pub prefix_wrong : not fits ≡ true → (buffer₁ last₁ : List ℕ) → KeySays buffer size p e last before layer 0 buffer₁ last₁
+    pub prefix_wrong : not fits ≡ true → KeyWrong buffer size p e last before layer
     unfolding PrefixIs key_stands
-    prefix_wrong h buffer₁ last₁ = record {
-      short = omega arith;
-      same = λ f. refl;
-      holds = λ f. absurd (f refl);
-      right = λ f. absurd (f refl);
-      wrong = λ z k w l o x.
-          let no : eqb e.shares (shared k (spelt k)) ≡ false =
-          cases (ltb e.shares (length buffer))
-          (λ q. sym (tested k w (ltb-true e.shares (length buffer) q)) ∙ not-true fits h)
-          (λ q. ne_eqb e.shares (shared k (spelt k)) (λ y. omega (arith, ltb-false e.shares (length buffer) q, shared_le_left k (spelt k), asked.held))) in
-          rw no;
-    }
+    prefix_wrong h k w l o x =
+        let no : eqb e.shares (shared k (spelt k)) ≡ false =
+        cases (ltb e.shares (length buffer))
+        (λ q. sym (tested k w (ltb-true e.shares (length buffer) q)) ∙ not-true fits h)
+        (λ q. ne_eqb e.shares (shared k (spelt k)) (λ y. omega (arith, ltb-false e.shares (length buffer) q, shared_le_left k (spelt k), asked.held))) in
+        rw no
 
     module _ (yes : not fits ≡ false) (buffer₁ : List ℕ) (size₁ : ℕ) (extended : Extended buffer size p e.shares e.remainder e.size buffer₁ size₁)
         (r : Bool) (holds : KeyHolds buffer₁ size₁ last before layer r) (small : r ≡ true → size₁ ≤ longest_key) where
@@ -101,33 +95,27 @@ module _ (buffer : List ℕ) (size : ℕ) (p : List ℕ) (e : EntryAt) (last : L
       unfolding Extended KeyHolds key_stands
       rest_is k w o l = rw (right_prefix k w) (sym (holds (spelt k) (extended k w) o l))
 
-      pub key_wrong : not r ≡ true → (last₁ : List ℕ) → KeySays buffer size p e last before layer 0 buffer₁ last₁
-      key_wrong h last₁ = record {
-        short = omega arith;
-        same = λ f. refl;
-        holds = λ f. absurd (f refl);
-        right = λ f. absurd (f refl);
-        wrong = λ z k w l o x. rest_is k w o x ∙ not-true r h;
-      }
+      pub key_wrong : not r ≡ true → KeyWrong buffer size p e last before layer
+      key_wrong h k w l o x = rest_is k w o x ∙ not-true r h
 
-      no_length : size₁ ≡ 0 → (k : List ℕ) → HoldsKey buffer size k → (o : Option (List ℕ)) → LastOf last before o → not r ≡ false → ⊥
+      key_long : not r ≡ false → (k : List ℕ) → HoldsKey buffer size k → (o : Option (List ℕ)) → LastOf last before o → 0 < size₁
       unfolding Extended KeyHolds
-      no_length z k w o x h =
+      key_long h k w o x =
           let held = extended k w in
           let law = (and_inv (lawful (spelt k)) (sym (holds (spelt k) held o x) ∙ not-false r h)).0 in
           omega (arith, lawful_some (spelt k) law, held.size)
 
       pub key_right : not r ≡ false → length buffer₁ ≡ length buffer → (last₁ : List ℕ) → last₁ ≡ front (take size₁ buffer₁) last
-          → KeySays buffer size p e last before layer size₁ buffer₁ last₁
+          → KeyTaken buffer size p e last before layer size₁ buffer₁ last₁
       unfolding Extended
       key_right h room last₁ q =
           let few : size₁ ≤ longest_key = small (not-false r h) in
           record {
             short = few;
-            same = λ f. remembered last buffer₁ size₁ (omega (arith, asked.held)) last₁ q;
-            holds = λ f k w. extended k w;
-            right = λ f k w o l. rest_is k w o l ∙ not-false r h;
-            wrong = λ z k w l o x. absurd (no_length z k w o x h);
+            same = remembered last buffer₁ size₁ (omega (arith, asked.held)) last₁ q;
+            some_bytes = key_long h;
+            holds = λ k w. extended k w;
+            right = λ k w o l. rest_is k w o l ∙ not-false r h;
           }
 
 -- ---- the first key of a tree

@@ -55,6 +55,10 @@ root_underway s p labels pages counts n keys tags last b raws w k two room =
       room = room;
     }
 
+pub kept_also : {raws : List RawPage} {n : ℕ} {keys tags keys' tags' : List ℕ} → keys ≡ keys' → tags ≡ tags' → KeptKeys raws n keys tags → KeptKeys raws n keys' tags'
+kept_also {raws} {n} {keys} {tags} {keys'} e f k =
+    subst (λ (x : List ℕ). KeptKeys raws n keys' x) f (subst (λ (x : List ℕ). KeptKeys raws n x tags) e k)
+
 pub root_keeps : (s p labels pages counts : List ℕ) (n : ℕ) (keys tags : List ℕ) → KeptKeys (raws_in p) n keys tags
     → (raws : List RawPage) → Summings s p labels pages counts n raws → KeptKeys raws n keys tags
 root_keeps s p labels pages counts n keys tags k raws w = subst (λ (rs : List RawPage). KeptKeys rs n keys tags) (sym (raws_are p raws w.filed.reads)) k

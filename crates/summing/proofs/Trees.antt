@@ -1,6 +1,6 @@
 -- The tree under one page, as judge_tree judges it.
 use Rattle.std.specs.Prelude.{Result, Ok, Err, Some, None, Option as OptionOf}
-use Prim.Native.Nat.{ℕ, suc, ◌+◌, ◌-◌, ◌≤◌, ◌<◌}
+use Prim.Native.Nat.{ℕ, suc, ◌+◌, ◌≤◌, ◌<◌}
 use mathlib.Core.Path.{◌≡◌, refl, sym, ap, subst, ◌∙◌}
 use mathlib.Core.Bool.{Bool, true, false}
 use mathlib.Core.Logic.{◌⊎◌, inl, ⊎_elim}

@@ -19,8 +19,10 @@ use Rattle.states.specs.Pages.{sequence, link_list, links_after}
 use Rattle.summaries.specs.Summary.{Summary, Tally, agrees, passes, after_gap, after_entries, summary, ReachedFrom}
 use Rattle.filing.specs.Filed.{bytes_at, pages_by_digest, Filed, page_place}
 use Rattle.tree_keys.specs.Ends.{SummaryAt, KeptKeys}
-use Rattle.summing.specs.Summed.{page_note, page_mark, note_at, Summings, Reaching}
+use Rattle.summing.specs.Summed.{page_note, page_mark, note_at, Summings, Reaching, TreeSays}
 use Rattle.summing.specs.declared.PartSum.{PartSum}
+use Rattle.summing.specs.declared.Judging.{Judging}
+use Rattle.summing.specs.declared.Written.{Written}
 
 -- The pages of a sequence, and the summary of the tree under a digest of one of them.
 unfoldable pub raws_of : Read (List RawPage) → List RawPage
@@ -141,14 +143,23 @@ pub record KeyAsked (buffer p : List ℕ) (e : EntryAt) (last : List ℕ) : Type
   pub shares : e.shares < numbers
   pub size : e.size < numbers
 
--- A length other than 0: the key is in the buffer, and is the last key.
-pub record KeySays (buffer : List ℕ) (size : ℕ) (p : List ℕ) (e : EntryAt) (last : List ℕ) (before layer r : ℕ) (buffer' last' : List ℕ) : Type 0 where
+-- The key of this length is in the buffer, and is the last key.
+pub record KeyTaken (buffer : List ℕ) (size : ℕ) (p : List ℕ) (e : EntryAt) (last : List ℕ) (before layer r : ℕ) (buffer' last' : List ℕ) : Type 0 where
   pub short : r ≤ longest_key
-  pub same : (r ≡ 0 → ⊥) → take r last' ≡ take r buffer'
-  pub holds : (r ≡ 0 → ⊥) → (k : List ℕ) → HoldsKey buffer size k → HoldsKey buffer' r (key_after k (entry_at p e))
-  pub right : (r ≡ 0 → ⊥) → (k : List ℕ) → HoldsKey buffer size k → (o : Option (List ℕ)) → LastOf last before o → key_stands k (entry_at p e) o layer ≡ true
-  pub wrong : r ≡ 0 → (k : List ℕ) → HoldsKey buffer size k → length k ≤ longest_key → (o : Option (List ℕ)) → LastOf last before o
-      → key_stands k (entry_at p e) o layer ≡ false
+  pub same : take r last' ≡ take r buffer'
+  pub some_bytes : (k : List ℕ) → HoldsKey buffer size k → (o : Option (List ℕ)) → LastOf last before o → 0 < r
+  pub holds : (k : List ℕ) → HoldsKey buffer size k → HoldsKey buffer' r (key_after k (entry_at p e))
+  pub right : (k : List ℕ) → HoldsKey buffer size k → (o : Option (List ℕ)) → LastOf last before o → key_stands k (entry_at p e) o layer ≡ true
+
+-- The key does not hold what it must.
+abbrev pub KeyWrong : List ℕ → ℕ → List ℕ → EntryAt → List ℕ → ℕ → ℕ → Type 0
+KeyWrong buffer size p e last before layer =
+    (k : List ℕ) → HoldsKey buffer size k → length k ≤ longest_key → (o : Option (List ℕ)) → LastOf last before o
+    → key_stands k (entry_at p e) o layer ≡ false
+
+abbrev pub KeySays : List ℕ → ℕ → List ℕ → EntryAt → List ℕ → ℕ → ℕ → OptionOf ℕ → List ℕ → List ℕ → Type 0
+KeySays buffer size p e last before layer (Some r) buffer' last' = KeyTaken buffer size p e last before layer r buffer' last'
+KeySays buffer size p e last before layer None buffer' last' = KeyWrong buffer size p e last before layer
 
 -- Whether the first key of the tree under the c-th page comes after a key.
 unfoldable pub FirstFollows : List ℕ → List ℕ → List ℕ → List ℕ → ℕ → ℕ → List ℕ → ℕ → Bool → Type 0
@@ -164,3 +175,38 @@ pub record PageNoted (pages counts : List ℕ) (i place note mark count : ℕ) (
   pub stands : page_place word ≡ place
   pub noted : page_note word ≡ note
   pub marked : page_mark word ≡ mark
+
+-- ---- the same of what is lent together
+abbrev pub UnderwayIn : Judging → List ℕ → Written → Type 0
+UnderwayIn f pages w = Underway f.states.now f.sequence.now f.labels.now pages w.counts.now f.n w.keys.now w.tags.now w.last.now
+
+abbrev pub GapAskedIn : Judging → List ℕ → Written → ℕ → ℕ → ℕ → ℕ → Type 0
+GapAskedIn f before w size link count layer = GapAsked f.sequence.now f.n before w.last.now size link count layer f.mark
+
+abbrev pub GapToldIn : Judging → List ℕ → Written → ℕ → ℕ → ℕ → ℕ → OptionOf PartSum → List ℕ → Written → Type 0
+GapToldIn f pages w size link count layer r pages' w' =
+    GapTold f.states.now f.sequence.now f.labels.now f.n pages w.counts.now w.last.now size link count layer f.mark r
+    pages' w'.counts.now w'.keys.now w'.tags.now w'.last.now
+
+abbrev pub EntriesAskedIn : Judging → ℕ → ℕ → ℕ → ℕ → Type 0
+EntriesAskedIn f first entries count layer = EntriesAsked f.sequence.now f.n first entries count layer f.mark
+
+abbrev pub EntriesToldIn : Judging → List ℕ → Written → ℕ → ℕ → ℕ → ℕ → ℕ → OptionOf PartSum → List ℕ → Written → Type 0
+EntriesToldIn f pages w size first entries count layer r pages' w' =
+    EntriesTold f.states.now f.sequence.now f.labels.now f.n pages w.counts.now w.last.now size first entries count layer f.mark r
+    pages' w'.counts.now w'.keys.now w'.tags.now w'.last.now
+
+abbrev pub TreeSaysIn : Judging → List ℕ → Written → ℕ → ℕ → Bool → List ℕ → Written → Type 0
+TreeSaysIn f pages w i layer r pages' w' =
+    TreeSays f.states.now f.sequence.now f.labels.now pages w.counts.now f.n i layer f.mark r pages' w'.counts.now
+
+-- The slices are the same ones, of the same lengths.
+pub record SameSlices (w w' : Written) : Type 0 where
+  pub counts : w'.counts.ghost_name ≡ w.counts.ghost_name
+  pub keys : w'.keys.ghost_name ≡ w.keys.ghost_name
+  pub tags : w'.tags.ghost_name ≡ w.tags.ghost_name
+  pub last : w'.last.ghost_name ≡ w.last.ghost_name
+  pub counts_length : length w'.counts.now ≡ length w.counts.now
+  pub keys_length : length w'.keys.now ≡ length w.keys.now
+  pub tags_length : length w'.tags.now ≡ length w.tags.now
+  pub last_length : length w'.last.now ≡ length w.last.now

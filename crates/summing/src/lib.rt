@@ -5,21 +5,18 @@
 ghost use Rattle.std.specs.Prelude.{◌≡◌, true, List, ◌^◌, ◌≤◌, ◌<◌, length};
 ghost use Rattle.limits.specs.Limits.{deepest, longest_key, most};
 ghost use Rattle.page.specs.Page.{RawPage};
-ghost use Rattle.filing.specs.Filed.{page_place};
 ghost use Rattle.tree_keys.specs.Ends.{PagesFiled, KeptKeys};
-ghost use Rattle.summing.specs.Summed.{page_note, Summings, TreeSays, RootSays};
-ghost use Rattle.summing.specs.Inner.{raws_in, Underway, GapAsked, GapTold, EntriesAsked, EntriesTold, KeyHolds, KeyAsked, KeySays, FirstFollows, PageNoted};
+ghost use Rattle.summing.specs.Summed.{page_note, Summings, RootSays};
+ghost use Rattle.summing.specs.Inner.{raws_in, SameSlices, UnderwayIn, GapAskedIn, GapToldIn, EntriesAskedIn, EntriesToldIn, TreeSaysIn, KeyHolds, KeyAsked, KeySays, FirstFollows, PageNoted};
 
 use bytestring::write_bytes;
 use key_calls::layers::layer_of;
 use limits::{DEEPEST, LONGEST_KEY, MOST};
 use page_keys::{extend_key, key_is_lawful, key_rises, prefix_fits};
 use page_reader::{EntryAt, locate_entry, read_page};
-use tree_keys::{first_key, kept_last_key, linked_page};
+use tree_keys::{PLACES, first_key, kept_last_key, linked_page, word_place};
 
-// A page's word holds its place below this number, its note above it, and its mark above the note.
-const PLACES: u32 = 0x40_0000;
-
+// A page's word has a note below this number above its place, and its mark above the note.
 const NOTES: u32 = 256;
 
 const MARKS: u32 = 0x4000_0000;
@@ -37,13 +34,29 @@ pub struct PartSum {
     pub size: usize,
 }
 
-fn word_place(word: u32) -> usize
-    ensures { result ≡ page_place word }
-{
-    (word % PLACES) as usize
+// What stays as it is while the trees under a root are judged: the sequence of the filed pages, the states before it, the words of the links to
+// the n pages, and the mark of what the root reaches.
+#[derive(Clone, Copy)]
+struct Judging<'a> {
+    states: &'a [u8],
+    sequence: &'a [u8],
+    labels: &'a [u32],
+    n: usize,
+    mark: u32,
 }
 
-fn word_note(word: u32) -> usize
+// What is written meanwhile: the counts of records beside the pages' words, the last keys that are kept and their tags, and the last key. The
+// words of the pages are lent beside it: they are read while keys, tags and the last key are lent.
+#[derive(Drop)]
+struct Written<'a> {
+    counts: &'a mut [u16],
+    keys: &'a mut [u8],
+    tags: &'a mut [u32],
+    last: &'a mut [u8],
+}
+
+// The note in the word of a page.
+pub fn word_note(word: u32) -> usize
     ensures { result ≡ page_note word }
 {
     (word / PLACES % NOTES) as usize
@@ -85,7 +98,7 @@ fn key_holds(buffer: &[u8], size: usize, last: &[u8], before: usize, layer: usiz
 }
 
 // The key that the entry e spells after the key in the buffer becomes the key in the buffer and the last key, where its prefix length is
-// right and the tests hold. Its length; 0 where one does not hold.
+// right and the tests hold. Its length.
 fn take_key(
     buffer: &mut [u8],
     size: usize,
@@ -94,7 +107,7 @@ fn take_key(
     last: &mut [u8],
     before: usize,
     layer: usize,
-) -> usize
+) -> Option<usize>
     requires { KeyAsked buffer.old sequence.now e last.old }
     ensures { KeySays buffer.old size sequence.now e last.old before layer result buffer.new last.new }
 {
@@ -102,97 +115,89 @@ fn take_key(
     let at = e.remainder;
     let length = e.size;
     if !prefix_fits(buffer, size, sequence, shares, at, length) {
-        return 0;
+        return None;
     }
     let new = extend_key(buffer, size, sequence, shares, at, length);
     if !key_holds(buffer, new, last, before, layer) {
-        return 0;
+        return None;
     }
     write_bytes(last, &buffer[..new]);
-    new
+    Some(new)
 }
 
 // Whether the first key of the tree under the c-th page comes after the key before it; there is none where its length is 0.
-fn first_follows(
-    states: &[u8],
-    sequence: &[u8],
-    labels: &[u32],
-    pages: &[u32],
-    n: usize,
-    c: usize,
-    before: &[u8],
-    size: usize,
-) -> bool
-    requires { PagesFiled states.now sequence.now labels.now pages.now n × (c < n) × (length sequence.now < 2 ^ 24) }
-    ensures { FirstFollows states.now sequence.now labels.now pages.now n c before.now size result }
+fn first_follows(judging: &Judging, pages: &[u32], c: usize, before: &[u8], size: usize) -> bool
+    requires { PagesFiled judging.now.states.now judging.now.sequence.now judging.now.labels.now pages.now judging.now.n × (c < judging.now.n) × (length judging.now.sequence.now < 2 ^ 24) }
+    ensures { FirstFollows judging.now.states.now judging.now.sequence.now judging.now.labels.now pages.now judging.now.n c before.now size result }
 {
     if size == 0 {
         return true;
     }
-    let key = first_key(states, sequence, labels, pages, n, c);
+    let key = first_key(
+        judging.states,
+        judging.sequence,
+        judging.labels,
+        pages,
+        judging.n,
+        c,
+    );
     let from = key.place;
     let length = key.size;
     let to = from + length;
-    key_rises(before, size, &sequence[from..to], length)
+    key_rises(before, size, &judging.sequence[from..to], length)
 }
 
 // The tree under the link at a place, or none at place 0. The key before it in its page, if there is one, is the last key so far too; the
 // tree's pages take `last` for their own keys, so that it is set anew behind them.
 #[cycle(judge_entries_judge_gap_judge_tree)]
 fn judge_gap(
-    states: &[u8],
-    sequence: &[u8],
-    labels: &[u32],
-    n: usize,
+    judging: &Judging,
     pages: &mut [u32],
-    counts: &mut [u16],
-    keys: &mut [u8],
-    tags: &mut [u32],
-    last: &mut [u8],
+    written: &mut Written,
     before: &[u8],
     size: usize,
     link: usize,
     count: usize,
     layer: usize,
-    mark: u32,
 ) -> Option<PartSum>
-    requires { Underway states.now sequence.now labels.now pages.old counts.old n keys.old tags.old last.old × GapAsked sequence.now n before.now last.old size link count layer mark }
-    ensures { GapTold states.now sequence.now labels.now n pages.old counts.old last.old size link count layer mark result pages.new counts.new keys.new tags.new last.new }
+    requires { UnderwayIn judging.now pages.old written.old × GapAskedIn judging.now before.now written.old size link count layer }
+    ensures told { GapToldIn judging.now pages.old written.old size link count layer result pages.new written.new }
+    ensures same { SameSlices written.old written.new }
 {
     if link == 0 {
-        return Some(PartSum {
-            count: count,
-            size: size,
-        });
+        return Some(PartSum { count, size });
     }
     if layer == 0 {
         return None;
     }
-    let c = linked_page(states, sequence, labels, n, link);
-    if !judge_tree(
-        states,
-        sequence,
-        labels,
-        n,
-        pages,
-        counts,
-        keys,
-        tags,
-        last,
-        c,
-        layer - 1,
-        mark,
-    ) {
+    let c = linked_page(
+        judging.states,
+        judging.sequence,
+        judging.labels,
+        judging.n,
+        link,
+    );
+    if !judge_tree(judging, pages, written, c, layer - 1) {
         return None;
     }
-    if !first_follows(states, sequence, labels, pages, n, c, before, size) {
+    if !first_follows(judging, pages, c, before, size) {
         return None;
     }
-    let sum = count + counts[c] as usize;
+    let sum = count + usize::from(written.counts[c]);
     if MOST < sum {
         return None;
     }
-    let length = kept_last_key(states, sequence, labels, pages, n, c, keys, tags, last);
+    let length = kept_last_key(
+        judging.states,
+        judging.sequence,
+        judging.labels,
+        pages,
+        judging.n,
+        c,
+        written.keys,
+        written.tags,
+        written.last,
+    );
     Some(PartSum {
         count: sum,
         size: length,
@@ -202,72 +207,51 @@ fn judge_gap(
 // The entries of a page from first on, and the trees after them.
 #[cycle(judge_entries_judge_gap_judge_tree)]
 fn judge_entries(
-    states: &[u8],
-    sequence: &[u8],
-    labels: &[u32],
-    n: usize,
+    judging: &Judging,
     pages: &mut [u32],
-    counts: &mut [u16],
-    keys: &mut [u8],
-    tags: &mut [u32],
-    last: &mut [u8],
+    written: &mut Written,
     first: usize,
     entries: usize,
     start: PartSum,
     layer: usize,
-    mark: u32,
 ) -> Option<PartSum>
-    requires { Underway states.now sequence.now labels.now pages.old counts.old n keys.old tags.old last.old × EntriesAsked sequence.now n first entries start.count layer mark }
-    ensures { EntriesTold states.now sequence.now labels.now n pages.old counts.old last.old start.size first entries start.count layer mark result pages.new counts.new keys.new tags.new last.new }
+    requires { UnderwayIn judging.now pages.old written.old × EntriesAskedIn judging.now first entries start.count layer }
+    ensures told { EntriesToldIn judging.now pages.old written.old start.size first entries start.count layer result pages.new written.new }
+    ensures same { SameSlices written.old written.new }
 {
     let mut buffer = [0u8; ROOM];
     let mut size = 0;
     let mut cur = start;
     let mut at = first;
-    let mut i = 0;
-    while i < entries {
-        match locate_entry(sequence, at) {
-            Ok(e) => {
-                let link = e.link;
-                let count = cur.count;
-                if MOST <= count {
-                    return None;
-                }
-                size = take_key(&mut buffer, size, sequence, e, last, cur.size, layer);
-                if size == 0 {
-                    return None;
-                }
-                i += 1;
-                at = e.end;
-                match judge_gap(
-                    states,
-                    sequence,
-                    labels,
-                    n,
-                    pages,
-                    counts,
-                    keys,
-                    tags,
-                    last,
-                    &buffer,
-                    size,
-                    link,
-                    count + 1,
-                    layer,
-                    mark,
-                ) {
-                    Some(next) => {
-                        cur = next;
-                    }
-                    None => {
-                        return None;
-                    }
-                }
-            }
-            Err(_) => {
-                return None;
-            }
+    for i in 0..entries {
+        let Ok(e) = locate_entry(judging.sequence, at) else {
+            return None;
+        };
+        let link = e.link;
+        let count = cur.count;
+        if MOST <= count {
+            return None;
         }
+        size = take_key(
+            &mut buffer,
+            size,
+            judging.sequence,
+            e,
+            written.last,
+            cur.size,
+            layer,
+        )?;
+        at = e.end;
+        cur = judge_gap(
+            judging,
+            pages,
+            written,
+            &buffer,
+            size,
+            link,
+            count + 1,
+            layer,
+        )?;
     }
     Some(cur)
 }
@@ -276,60 +260,48 @@ fn judge_entries(
 // word and its count beside it.
 #[cycle(judge_entries_judge_gap_judge_tree)]
 fn judge_tree(
-    states: &[u8],
-    sequence: &[u8],
-    labels: &[u32],
-    n: usize,
+    judging: &Judging,
     pages: &mut [u32],
-    counts: &mut [u16],
-    keys: &mut [u8],
-    tags: &mut [u32],
-    last: &mut [u8],
+    written: &mut Written,
     i: usize,
     layer: usize,
-    mark: u32,
 ) -> bool
-    requires { Underway states.now sequence.now labels.now pages.old counts.old n keys.old tags.old last.old × (i < n) × (layer < deepest) × (mark < 2) }
-    ensures says { TreeSays states.now sequence.now labels.now pages.old counts.old n i layer mark result pages.new counts.new }
-    ensures keeps { result ≡ true → KeptKeys (raws_in sequence.now) n keys.new tags.new }
+    requires { UnderwayIn judging.now pages.old written.old × (i < judging.now.n) × (layer < deepest) × (judging.now.mark < 2) }
+    ensures says { TreeSaysIn judging.now pages.old written.old i layer result pages.new written.new }
+    ensures keeps { result ≡ true → KeptKeys (raws_in judging.now.sequence.now) judging.now.n written.new.keys.now written.new.tags.now }
+    ensures same { SameSlices written.old written.new }
 {
     let word = pages[i];
     let place = word_place(word);
     let note = word_note(word);
-    if 0 < note {
-        if note <= DEEPEST {
-            return note == layer + 1;
-        }
+    if 0 < note && note <= DEEPEST {
+        return note == layer + 1;
     }
-    match read_page(sequence, place) {
-        Ok(p) => {
-            let left = p.left;
-            let first = p.first;
-            let entries = p.count;
-            if entries == 0 {
-                if left == 0 {
-                    return false;
-                }
-            }
-            match judge_gap(
-                states, sequence, labels, n, pages, counts, keys, tags, last, states, 0, left, 0,
-                layer, mark,
-            ) {
-                Some(start) => match judge_entries(
-                    states, sequence, labels, n, pages, counts, keys, tags, last, first, entries,
-                    start, layer, mark,
-                ) {
-                    Some(sum) => {
-                        note_page(pages, counts, i, place, layer + 1, mark, sum.count);
-                        true
-                    }
-                    None => false,
-                },
-                None => false,
-            }
-        }
-        Err(_) => false,
+    let Ok(p) = read_page(judging.sequence, place) else {
+        return false;
+    };
+    let left = p.left;
+    let first = p.first;
+    let entries = p.count;
+    if entries == 0 && left == 0 {
+        return false;
     }
+    let Some(start) = judge_gap(judging, pages, written, judging.states, 0, left, 0, layer) else {
+        return false;
+    };
+    let Some(sum) = judge_entries(judging, pages, written, first, entries, start, layer) else {
+        return false;
+    };
+    note_page(
+        pages,
+        written.counts,
+        i,
+        place,
+        layer + 1,
+        judging.mark,
+        sum.count,
+    );
+    true
 }
 
 // Whether the i-th page is the root of an accepted register: the layer of its tree is that of its first key.
@@ -353,38 +325,44 @@ pub fn judge_root(
     let word = pages[i];
     let place = word_place(word);
     let note = word_note(word);
-    match read_page(sequence, place) {
-        Ok(p) => {
-            let first = p.first;
-            if p.count == 0 {
-                if p.left != 0 {
-                    return false;
-                }
-                if note == 0 {
-                    note_page(pages, counts, i, place, ALONE, mark, 0);
-                }
-                return true;
-            }
-            if 0 < note {
-                return true;
-            }
-            match locate_entry(sequence, first) {
-                Ok(e) => {
-                    let from = e.remainder;
-                    let size = e.size;
-                    if LONGEST_KEY < size {
-                        return false;
-                    }
-                    let to = from + size;
-                    let layer = layer_of(&sequence[from..to]) as usize;
-                    judge_tree(
-                        states, sequence, labels, n, pages, counts, keys, tags, last, i, layer,
-                        mark,
-                    )
-                }
-                Err(_) => false,
-            }
+    let Ok(p) = read_page(sequence, place) else {
+        return false;
+    };
+    let first = p.first;
+    if p.count == 0 {
+        if p.left != 0 {
+            return false;
         }
-        Err(_) => false,
+        if note == 0 {
+            note_page(pages, counts, i, place, ALONE, mark, 0);
+        }
+        return true;
     }
+    if 0 < note {
+        return true;
+    }
+    let Ok(e) = locate_entry(sequence, first) else {
+        return false;
+    };
+    let from = e.remainder;
+    let size = e.size;
+    if LONGEST_KEY < size {
+        return false;
+    }
+    let to = from + size;
+    let layer = layer_of(&sequence[from..to]) as usize;
+    let judging = Judging {
+        states,
+        sequence,
+        labels,
+        n,
+        mark,
+    };
+    let mut written = Written {
+        counts,
+        keys,
+        tags,
+        last,
+    };
+    judge_tree(&judging, pages, &mut written, i, layer)
 }

@@ -15,7 +15,7 @@ use Rattle.page_reader.specs.Place.{Reads, link_at, LocatedIs}
 use Rattle.page_reader.specs.declared.Stop.{Stop}
 use Rattle.page_reader.specs.declared.EntryAt.{EntryAt}
 use Rattle.page_reader.proofs.Located.{entry_place}
-use Rattle.summaries.specs.Summary.{Summary, after_gap, after_entries, then_tally, summed, summed_tally, summary_of_page, summary}
+use Rattle.summaries.specs.Summary.{Summary, after_gap, after_entries, then_tally, summed, summed_tally, summary_of_page}
 use Rattle.tree_keys.specs.Inner.{OwnFirst}
 use Rattle.tree_keys.specs.declared.KeyAt.{KeyAt}
 

@@ -1,5 +1,5 @@
 -- Keys that are kept, each with a tag of its page.
-use Prim.Native.Nat.{ℕ, ◌+◌, ◌-◌, ◌*◌, ◌/◌, ◌%◌, ◌≤◌, ◌<◌}
+use Prim.Native.Nat.{ℕ, ◌+◌, ◌-◌, ◌*◌, ◌%◌, ◌≤◌, ◌<◌}
 use mathlib.Core.Path.{◌≡◌, refl, sym, ap, subst, ◌∙◌}
 use mathlib.Core.List.{List, ◌++◌, append-nil}
 use native.Mathlib.Omega.{arith}
@@ -22,12 +22,6 @@ use Rattle.tree_keys.specs.Inner.{TagFound, KeyKept}
 use Rattle.tree_keys.proofs.Following.{pages_rise}
 
 -- ---- tags
-pub tag_here : (tags : List ℕ) (i k w : ℕ) → k < length tags → w ≡ get_or tags k 0 → w / 512 ≡ i + 1 → TagFound tags i k
-tag_here tags i k w h e q = record { within = omega arith; tag = λ l. ap (λ (x : ℕ). x / 512) (sym e) ∙ q ∙ omega arith }
-
-pub no_tag : (tags : List ℕ) (i k : ℕ) → length tags ≤ k → k ≤ length tags → TagFound tags i k
-no_tag tags i k h l = record { within = l; tag = λ m. absurd (omega arith) }
-
 pub turn_within : (w m : ℕ) → 2 ≤ m → w % (m - 1) + 1 < m
 turn_within w m h =
     let positive : 0 < m - 1 = omega arith in
@@ -55,9 +49,9 @@ same_pages {raws} f g = read_sub (λ (l : List RawPage) _. raws ≡ l) (sym f.re
 
 module _ {s p labels pages : List ℕ} {n : ℕ} {raws : List RawPage} (f : Filed s p labels pages n raws) {keys tags : List ℕ}
     (kept : KeptKeys raws n keys tags)
-    (c k : ℕ) (found : TagFound tags c k) (within : k < length tags) where
+    (c k : ℕ) (found : TagFound tags c k) where
   pub kept_short : tag_size (get_or tags k 0) ≤ longest_key
-  kept_short = kept.size k within
+  kept_short = kept.size k found.within
 
   pub kept_says : (last : List ℕ) (size : ℕ) → size ≡ tag_size (get_or tags k 0) → take size last ≡ take size (drop (longest_key * k) keys) → length last ≡ longest_key
       → LastSays s p labels pages n c last size
@@ -65,7 +59,7 @@ module _ {s p labels pages : List ℕ} {n : ℕ} {raws : List RawPage} (f : File
       let here : SummaryAt raws c x = subst (λ (l : List RawPage). SummaryAt l c x) (same_pages g f) q in
       record {
         room = omega (arith, kept_short);
-        bytes = same ∙ rw e ((kept.right k c within (found.tag within)).1 x here);
+        bytes = same ∙ rw e ((kept.right k c found.within found.tag).1 x here);
       }
 
 -- ---- a key more
@@ -111,9 +105,6 @@ module _ (raws : List RawPage) (n : ℕ) (keys tags : List ℕ) (i : ℕ) (last 
       (cases (ltb k w.turn)
       (λ q. part_before keys last (longest_key * w.turn) longest_key fits room (longest_key * k) m (omega (arith, ltb-true k w.turn q)))
       (λ q. part_behind keys last (longest_key * w.turn) longest_key fits room (longest_key * k) m (omega (arith, ltb-false k w.turn q, e))))
-
-  abbrev SizeAt : ℕ → Type 0
-  SizeAt k = tag_size (get_or tags' k 0) ≤ longest_key
 
   abbrev RightAt : ℕ → ℕ → Type 0
   RightAt k j = tag_page (get_or tags' k 0) ≡ 1 + j

@@ -13,7 +13,7 @@ use Rattle.limits.specs.Limits.{longest_key}
 use Rattle.value.specs.Value.{digest_in}
 use Rattle.key.proofs.Laws.{lawful_length}
 use Rattle.page.specs.Reading.{read, times}
-use Rattle.page.specs.Page.{RawEntry, entry, entry_bytes, RawPage, page}
+use Rattle.page.specs.Page.{RawEntry, entry, entry_bytes, RawPage}
 use Rattle.page.proofs.Readers.{andThen-inv}
 use Rattle.page_reader.specs.Place.{Reads, NumberIs, link_at, entry_at, EntryHere, Located, LocatedIs, page_start}
 use Rattle.page_reader.specs.declared.Stop.{Stop}

@@ -1,5 +1,5 @@
 -- What contracts inside this crate cite, and no public contract does.
-use Rattle.std.specs.Prelude.{ℕ, suc, ◌+◌, ◌-◌, ◌*◌, ◌≤◌, ◌<◌, ◌≡◌, cond, List, [], ◌∷◌, ◌++◌, length, take, drop, get_or, set, ltb}
+use Rattle.std.specs.Prelude.{ℕ, ◌+◌, ◌-◌, ◌*◌, ◌≤◌, ◌<◌, ◌≡◌, List, [], ◌∷◌, ◌++◌, length, take, drop, get_or, set}
 use Rattle.std.proofs.Math.Option.{Option, some}
 use Rattle.bytestring.specs.Bytes.{Bytes}
 use Rattle.limits.specs.Limits.{longest_key}
@@ -11,16 +11,11 @@ use Rattle.promises.specs.Promises.{Among}
 use Rattle.page_keys.specs.Buffer.{LastIs}
 use Rattle.summaries.specs.Summary.{Summary, summary_of_page}
 use Rattle.sequence.specs.Noted.{links_by_place}
-use Rattle.filing.specs.Filed.{page_place}
 use Rattle.tree_keys.specs.Ends.{tag_page, SummaryAt}
 use Rattle.tree_keys.specs.declared.KeyAt.{KeyAt}
 use Rattle.tree_keys.specs.declared.OwnEnd.{OwnEnd}
 
 -- ---- one page
--- Where the i-th of n pages ends: where the next begins, and the last at the end of p.
-unfoldable pub place_after : List ℕ → List ℕ → ℕ → ℕ → ℕ
-place_after p pages n i = cond (ltb (suc i) n) (page_place (get_or pages (suc i) 0)) (length p)
-
 -- A key stands in p; where so many entries are read from a place on, it is the remainder of the first.
 pub record OwnFirst (p : List ℕ) (first count : ℕ) (k : KeyAt) : Type 0 where
   pub within : k.place + k.size ≤ length p
@@ -71,10 +66,10 @@ abbrev pub SameFirst : List RawPage → ℕ → ℕ → ℕ → Type 0
 SameFirst raws i c steps = (x : Summary) → SummaryAt raws i x → (y : Summary) × SummaryAt raws c y × (y.first ≡ x.first) × (y.layer + steps ≤ 128)
 
 -- ---- keys that are kept
--- The r-th tag is one of the i-th page, unless there are no more than r tags.
+-- The r-th tag is one of the i-th page.
 pub record TagFound (tags : List ℕ) (i r : ℕ) : Type 0 where
-  pub within : r ≤ length tags
-  pub tag : r < length tags → tag_page (get_or tags r 0) ≡ 1 + i
+  pub within : r < length tags
+  pub tag : tag_page (get_or tags r 0) ≡ 1 + i
 
 -- The buffer of the last key was kept for the i-th page, in the place of another key that was kept. The last tag is no page's: it says whose
 -- turn is next.

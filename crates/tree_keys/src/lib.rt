@@ -1,30 +1,21 @@
 // The first and the last key of the tree under a filed page. The functions are for the crates above and no public calls.
 #![tactic(auto)]
 
-ghost use Rattle.std.specs.Prelude.{◌≡◌, List, ℕ, ◌+◌, ◌*◌, ◌≤◌, ◌<◌, length, take, drop, get_or};
+ghost use Rattle.std.specs.Prelude.{◌≡◌, IfSome, List, ℕ, ◌+◌, ◌*◌, ◌≤◌, ◌<◌, length, take, drop, get_or};
 ghost use Rattle.limits.specs.Limits.{longest, longest_key};
 ghost use Rattle.page.specs.Page.{RawPage};
 ghost use Rattle.filing.specs.Filed.{page_place, Filed};
-ghost use Rattle.tree_keys.specs.Ends.{PagesFiled, PagesInRow, Leads, LeadsTo, FirstSays, LastSays, tag_size, KeptKeys};
-ghost use Rattle.tree_keys.specs.Inner.{place_after, OwnFirst, PageFirst, LinkWithin, LeftIs, EntriesEndWith, PageEndsWith, SameLast, TagFound, KeyKept};
+ghost use Rattle.tree_keys.specs.Ends.{PagesFiled, Leads, LeadsTo, FirstSays, LastSays, tag_size, KeptKeys};
+ghost use Rattle.tree_keys.specs.Inner.{OwnFirst, PageFirst, LinkWithin, LeftIs, EntriesEndWith, PageEndsWith, SameLast, TagFound, KeyKept};
 
 use bytestring::write_bytes;
 use limits::{DEEPEST, LONGEST_KEY};
 use links::find_word;
 use page_keys::extend_key;
 use page_reader::{locate_entry, read_page, read_page_start};
-use value::DIGEST;
 
 // A page's word holds its place below this number.
-const PLACES: u32 = 0x40_0000;
-
-// A page link has so many bytes, and this one is the first.
-const LINK: usize = 41;
-
-const LINK_START: u8 = 0xD8;
-
-// A page with a left link has so many bytes at least.
-const LEAST_WITH_LEFT: usize = 47;
+pub const PLACES: u32 = 0x40_0000;
 
 // A page with more entries is long.
 const LONG: usize = 64;
@@ -39,64 +30,38 @@ pub struct KeyAt {
     pub size: usize,
 }
 
-// The length of a page's last own key, and the place of the digest of the link after it, or 0.
+// The length of a page's last own key, and the place of the digest of the link after it, or 0: no digest stands at the first byte of a sequence.
 #[derive(Clone, Copy)]
 struct OwnEnd {
     size: usize,
     link: usize,
 }
 
-fn wide(w: u32) -> usize
-    ensures { result ≡ w }
+// No key: an empty one at the first byte. No Option says so, since by its contract `first_key` answers a place in the sequence in any case.
+const NO_KEY: KeyAt = KeyAt { place: 0, size: 0 };
+
+// No end: neither a key nor a link.
+const NO_END: OwnEnd = OwnEnd { size: 0, link: 0 };
+
+// The place in the word of a page.
+pub fn word_place(word: u32) -> usize
+    ensures { result ≡ page_place word }
 {
-    w as usize
+    (word % PLACES) as usize
 }
 
-// The place of the i-th page.
-fn page_place(pages: &[u32], i: usize) -> usize
-    requires { i < length pages.now }
-    ensures { result ≡ page_place (get_or pages.now i 0) }
-{
-    (pages[i] % PLACES) as usize
-}
-
-// Where the i-th page ends: where the next begins, and the last at the end of the sequence.
-fn place_after(sequence: &[u8], pages: &[u32], n: usize, i: usize) -> usize
-    requires { (i < n) × (n ≤ length pages.now) }
-    ensures { result ≡ place_after sequence.now pages.now n i }
-{
-    if i + 1 < n {
-        return page_place(pages, i + 1);
-    }
-    sequence.len()
-}
-
-// The place of the digest of the left link of the page that stands between two places, or 0. The link ends the page. Where there is none, the
-// value of the last entry ends three bytes before the page does, so that its fourth byte stands where a link would begin.
-fn left_link(sequence: &[u8], at: usize, end: usize) -> usize
-    requires { (at ≤ end) × (end ≤ length sequence.now) }
-    ensures { LeftIs sequence.now at end result }
-{
-    if end - at < LEAST_WITH_LEFT {
-        return 0;
-    }
-    if sequence[end - LINK] == LINK_START {
-        return end - DIGEST;
-    }
-    0
-}
-
-// The same of the page at a place, whose entries are passed.
+// The place of the digest of the left link of the page at a place, or 0: no digest stands at the first byte of a sequence.
 fn read_left(sequence: &[u8], at: usize) -> usize
     ensures { (end : ℕ) → LeftIs sequence.now at end result }
 {
-    match read_page(sequence, at) {
-        Ok(p) => p.left,
-        Err(_) => 0,
-    }
+    let Ok(p) = read_page(sequence, at) else {
+        return 0;
+    };
+    p.left
 }
 
-// The number of the page whose digest stands at the place of a link.
+// The number of the page whose digest stands at the place of a link. What filed pages are known by is passed part by part, here and below: the
+// contracts name each part.
 pub fn linked_page(states: &[u8], sequence: &[u8], labels: &[u32], n: usize, link: usize) -> usize
     requires { Leads states.now sequence.now labels.now n link }
     ensures { LeadsTo states.now sequence.now labels.now n link result }
@@ -110,14 +75,14 @@ fn own_first(sequence: &[u8], first: usize, count: usize) -> KeyAt
     ensures { OwnFirst sequence.now first count result }
 {
     if count == 0 {
-        return KeyAt { place: 0, size: 0 };
+        return NO_KEY;
     }
-    match locate_entry(sequence, first) {
-        Ok(e) => KeyAt {
-            place: e.remainder,
-            size: e.size,
-        },
-        Err(_) => KeyAt { place: 0, size: 0 },
+    let Ok(e) = locate_entry(sequence, first) else {
+        return NO_KEY;
+    };
+    KeyAt {
+        place: e.remainder,
+        size: e.size,
     }
 }
 
@@ -125,10 +90,10 @@ fn own_first(sequence: &[u8], first: usize, count: usize) -> KeyAt
 fn page_first(sequence: &[u8], at: usize) -> KeyAt
     ensures { PageFirst sequence.now at result }
 {
-    match read_page_start(sequence, at) {
-        Ok((count, first)) => own_first(sequence, first, count),
-        Err(_) => KeyAt { place: 0, size: 0 },
-    }
+    let Ok((count, first)) = read_page_start(sequence, at) else {
+        return NO_KEY;
+    };
+    own_first(sequence, first, count)
 }
 
 // The first key of the tree under the i-th page: left links lead to the page that it stands in.
@@ -144,44 +109,15 @@ pub fn first_key(
     ensures { FirstSays states.now sequence.now labels.now pages.now n i result }
 {
     let mut c = i;
-    let mut steps = 0;
-    while steps < DEEPEST {
-        let at = page_place(pages, c);
+    for steps in 0..DEEPEST {
+        let at = word_place(pages[c]);
         let left = read_left(sequence, at);
         if left == 0 {
             return page_first(sequence, at);
         }
         c = linked_page(states, sequence, labels, n, left);
-        steps += 1;
     }
-    KeyAt { place: 0, size: 0 }
-}
-
-// The same where the pages stand in a row, so that their ends are known: no entries are passed on the way.
-pub fn first_key_by_ends(
-    states: &[u8],
-    sequence: &[u8],
-    labels: &[u32],
-    pages: &[u32],
-    n: usize,
-    i: usize,
-) -> KeyAt
-    requires { PagesInRow states.now sequence.now labels.now pages.now n × (i < n) }
-    ensures { FirstSays states.now sequence.now labels.now pages.now n i result }
-{
-    let mut c = i;
-    let mut steps = 0;
-    while steps < DEEPEST {
-        let at = page_place(pages, c);
-        let end = place_after(sequence, pages, n, c);
-        let left = left_link(sequence, at, end);
-        if left == 0 {
-            return page_first(sequence, at);
-        }
-        c = linked_page(states, sequence, labels, n, left);
-        steps += 1;
-    }
-    KeyAt { place: 0, size: 0 }
+    NO_KEY
 }
 
 // Spells the key of the last of the entries from a place on. The page was read before, so that its entries need only be located.
@@ -193,19 +129,13 @@ fn spell_last(sequence: &[u8], first: usize, count: usize, left: usize, last: &m
     let mut size = 0;
     let mut link = left;
     let mut at = first;
-    let mut j = 0;
-    while j < count {
-        match locate_entry(sequence, at) {
-            Ok(e) => {
-                size = extend_key(last, size, sequence, e.shares, e.remainder, e.size);
-                link = e.link;
-                at = e.end;
-            }
-            Err(_) => {
-                return OwnEnd { size: 0, link: 0 };
-            }
-        }
-        j += 1;
+    for j in 0..count {
+        let Ok(e) = locate_entry(sequence, at) else {
+            return NO_END;
+        };
+        size = extend_key(last, size, sequence, e.shares, e.remainder, e.size);
+        link = e.link;
+        at = e.end;
     }
     OwnEnd { size, link }
 }
@@ -216,26 +146,14 @@ fn walk_last(sequence: &[u8], at: usize, last: &mut [u8]) -> OwnEnd
     ensures within { LinkWithin sequence.now result.link }
     ensures says { PageEndsWith sequence.now at last.new result }
 {
-    match read_page_start(sequence, at) {
-        Ok((count, first)) => {
-            if 0 < count {
-                return spell_last(sequence, first, count, 0, last);
-            }
-            let left = read_left(sequence, at);
-            spell_last(sequence, first, count, left, last)
-        }
-        Err(_) => OwnEnd { size: 0, link: 0 },
+    let Ok((count, first)) = read_page_start(sequence, at) else {
+        return NO_END;
+    };
+    if 0 < count {
+        return spell_last(sequence, first, count, 0, last);
     }
-}
-
-// A length that a key may have.
-fn short_size(size: usize) -> usize
-    ensures { (result ≤ longest_key) × (size ≤ longest_key → result ≡ size) }
-{
-    if LONGEST_KEY < size {
-        return 0;
-    }
-    size
+    let left = read_left(sequence, at);
+    spell_last(sequence, first, count, left, last)
 }
 
 // The last key of the tree under the i-th page: last links lead to the page that it stands in.
@@ -253,26 +171,24 @@ pub fn last_key(
     ensures says { LastSays states.now sequence.now labels.now pages.now n i last.new result }
 {
     let mut c = i;
-    let mut steps = 0;
-    while steps < DEEPEST {
-        let at = page_place(pages, c);
+    for steps in 0..DEEPEST {
+        let at = word_place(pages[c]);
         let end = walk_last(sequence, at, last);
         let link = end.link;
         if link == 0 {
-            return short_size(end.size);
+            return end.size.min(LONGEST_KEY);
         }
         c = linked_page(states, sequence, labels, n, link);
-        steps += 1;
     }
     0
 }
 
 // Whether the page at a place has many entries.
 fn is_long(sequence: &[u8], at: usize) -> bool {
-    match read_page_start(sequence, at) {
-        Ok((count, _)) => LONG < count,
-        Err(_) => false,
-    }
+    let Ok((count, _)) = read_page_start(sequence, at) else {
+        return false;
+    };
+    LONG < count
 }
 
 // From the i-th page last links lead to a long page, or to the page that the last key stands in.
@@ -290,9 +206,8 @@ fn long_page(
     ensures same { (raws : List RawPage) → Filed states.now sequence.now labels.now pages.now n raws → SameLast raws i result 0 }
 {
     let mut c = i;
-    let mut steps = 0;
-    while steps < DEEPEST {
-        let at = page_place(pages, c);
+    for steps in 0..DEEPEST {
+        let at = word_place(pages[c]);
         if is_long(sequence, at) {
             return c;
         }
@@ -302,24 +217,16 @@ fn long_page(
             return c;
         }
         c = linked_page(states, sequence, labels, n, link);
-        steps += 1;
     }
     c
 }
 
-// The number of a tag of the i-th page, or that of all tags.
-fn find_tag(tags: &[u32], i: usize) -> usize
+// The number of a tag of the i-th page.
+fn find_tag(tags: &[u32], i: usize) -> Option<usize>
     requires { i < longest }
-    ensures { TagFound tags.now i result }
+    ensures { IfSome result (λ k. TagFound tags.now i k) }
 {
-    let mut k = 0;
-    while k < tags.len() {
-        if wide(tags[k]) / TAG == i + 1 {
-            return k;
-        }
-        k += 1;
-    }
-    k
+    tags.iter().position(|tag| *tag as usize / TAG == i + 1)
 }
 
 // Copies the key with the k-th tag. Its length.
@@ -328,7 +235,7 @@ fn take_kept(keys: &[u8], tags: &[u32], k: usize, last: &mut [u8]) -> usize
     ensures size { result ≡ tag_size (get_or tags.now k 0) }
     ensures key { take result last.new ≡ take result (drop (longest_key * k) keys.now) }
 {
-    let size = wide(tags[k]) % TAG;
+    let size = tags[k] as usize % TAG;
     let from = LONGEST_KEY * k;
     let to = from + size;
     write_bytes(last, &keys[from..to]);
@@ -341,7 +248,7 @@ fn turn_of(tags: &[u32]) -> usize
     ensures { result + 1 < length tags.now }
 {
     let end = tags.len() - 1;
-    wide(tags[end]) % end
+    tags[end] as usize % end
 }
 
 // Keeps the last key of the tree under the i-th page.
@@ -377,12 +284,11 @@ pub fn kept_last_key(
     ensures keeps { (raws : List RawPage) → Filed states.now sequence.now labels.now pages.now n raws → KeptKeys raws n keys.old tags.old → KeptKeys raws n keys.new tags.new }
 {
     let c = long_page(states, sequence, labels, pages, n, i, last);
-    let k = find_tag(tags, c);
-    if k < tags.len() {
+    if let Some(k) = find_tag(tags, c) {
         return take_kept(keys, tags, k, last);
     }
     let size = last_key(states, sequence, labels, pages, n, c, last);
-    if is_long(sequence, page_place(pages, c)) {
+    if is_long(sequence, word_place(pages[c])) {
         keep_key(keys, tags, c, last, size);
     }
     size

@@ -1,18 +1,19 @@
 -- A page and the pages below it, composed from their parts.
 use Prim.Native.Nat.{ℕ, zero, suc, ◌+◌, ◌-◌, ◌≤◌, ◌<◌}
-use mathlib.Core.Path.{◌≡◌, refl, sym, ap, ◌∙◌}
-use mathlib.Core.Bool.{true, false, not, ◌&&◌}
-use mathlib.Core.Option.{Option}
+use Rattle.std.specs.Prelude.{Option, None, Some, is_some, IfSome}
+use mathlib.Core.Path.{◌≡◌, refl, sym, ap, subst, ◌∙◌}
+use mathlib.Core.Bool.{◌&&◌}
+use mathlib.Core.Option as maybe
 use mathlib.Core.List.{List, [], ◌∷◌, ◌++◌, append-nil}
 use native.Mathlib.Omega.{arith}
-use borrow.Author.Tests.{not-true, not-false, le-leb, lt-leb, leb-true, leb-false}
+use borrow.Author.Tests.{le-leb, lt-leb, leb-true, leb-false}
 use borrow.Table.Steps.{cases}
 use lib.Dec.{leb}
 use lib.ListN.{length, take, drop, length-append, length-drop}
 use lib.Seq.{length-take-le}
 use Rattle.bytestring.proofs.Lending.{lent, back}
 use Rattle.bytestring.specs.Bytes.{front}
-use Rattle.page_writer.specs.Front.{number_length, link_if, gap_length, page_start_bytes, page_end_bytes}
+use Rattle.page_writer.specs.Front.{number_length, link_held, gap_length, page_start_bytes, page_end_bytes}
 use Rattle.page_writer.proofs.Sizes.{length_page_start, length_page_end}
 use Rattle.tree.specs.Tree.{Page, Gap, Entries, Placed, entries_of}
 use Rattle.tree.specs.Record.{Record, spelt, spelt_under, spelt_from}
@@ -22,7 +23,7 @@ use Rattle.layout.specs.Layout.{has_page, ends, Sized}
 use Rattle.layout.specs.declared.sizes.Size.{Size}
 use Rattle.layout.proofs.Ranges.{link_to, Cuts, cuts}
 use Rattle.layout.proofs.Measures.{end_size}
-use Rattle.writer.specs.Wrote.{page_at, gap_at, tables_of, Written, GapDone, GapWritten, overwritten, entries_fit, EntriesWritten}
+use Rattle.writer.specs.Wrote.{page_at, gap_at, tables_of, Written, GapDone, GapWritten, overwritten, entries_fit, EntriesDone, EntriesWritten}
 use Rattle.writer.specs.declared.pages.Below.{Below}
 use Rattle.writer.specs.declared.pages.Laid.{Laid}
 use Rattle.writer.proofs.Tables.{table_in, bytes_are, table_is, page_length, table_length, table_longer}
@@ -113,17 +114,17 @@ own_lacks {s} {u} {row} {lo} {hi} {n} o {z} sized h =
     either n (λ q. omega (arith, size, more, sized.leaf q)) (λ q. omega (arith, size, more, sized.inner q))
 
 -- ---- after the gap before the first entry is written
-pub record Begun (s u row : List ℕ) (lo hi n : ℕ) (o : List ℕ) (z : Size) (ys : List ℕ) (w : Below) : Type 0 where
+pub record Begun (s u row : List ℕ) (lo hi n : ℕ) (o : List ℕ) (z : Size) (ys : List ℕ) (r : Option Below) : Type 0 where
   pub sized : Sized s u row lo hi n (length o) z
   pub room : z.own ≤ length o
-  pub gap : GapWritten (gap_at s u row lo z.first n) (lent z.own o) ys w
+  pub gap : GapWritten (gap_at s u row lo z.first n) (lent z.own o) ys r
 
 -- by what the calls before it say
-pub begun : (s u row : List ℕ) (lo hi n : ℕ) (o : List ℕ) (z : Size) (ys : List ℕ) (w : Below)
-    → Sized s u row lo hi n (length o) z → z.own ≤ length o → GapWritten (gap_at s u row lo z.first n) (lent z.own o) ys w → Begun s u row lo hi n o z ys w
-begun s u row lo hi n o z ys w sized room gap = record { sized = sized; room = room; gap = gap }
+pub begun : (s u row : List ℕ) (lo hi n : ℕ) (o : List ℕ) (z : Size) (ys : List ℕ) (r : Option Below)
+    → Sized s u row lo hi n (length o) z → z.own ≤ length o → GapWritten (gap_at s u row lo z.first n) (lent z.own o) ys r → Begun s u row lo hi n o z ys r
+begun s u row lo hi n o z ys r sized room gap = record { sized = sized; room = room; gap = gap }
 
-module _ {s u row : List ℕ} {lo hi n : ℕ} {o : List ℕ} {z : Size} {ys : List ℕ} {w : Below} (b : Begun s u row lo hi n o z ys w) where
+module _ {s u row : List ℕ} {lo hi n : ℕ} {o : List ℕ} {z : Size} {ys : List ℕ} {r : Option Below} (b : Begun s u row lo hi n o z ys r) where
   abbrev f : ℕ → Placed Record
   f = record_in s u row
 
@@ -172,23 +173,23 @@ module _ {s u row : List ℕ} {lo hi n : ℕ} {o : List ℕ} {z : Size} {ys : Li
     own_room : z.own ≡ length o
     own_room = omega (arith, b.sized.leaf q, b.room)
 
-  pub left_lacks : not w.room ≡ true → length o < length (table (spelt tree))
+  pub left_lacks : r ≡ None → length o < length (table (spelt tree))
   left_lacks e =
       let l = gap_lacks b.gap e in
       either n (λ q. absurd (omega (arith, l, no_left q)))
       (λ q. omega (arith, l, lent_size, total, page_size, b.sized.inner q, end_size n f lo (z.first - lo), b.room))
 
-  module _ (e : not w.room ≡ false) where
-    done : GapDone left (lent z.own o) ys w.len w.linked w.digest
+  module _ {w : Below} (e : r ≡ Some w) where
+    done : GapDone left (lent z.own o) ys w.len w.link
     done = gap_done b.gap e
 
-    end_is : length (page_end_bytes (link_to left)) ≡ 2 + gap_length w.linked
-    end_is = sym (ap (λ (g : Option (List ℕ)). length (page_end_bytes g)) done.link) ∙ length_page_end w.linked w.digest done.whole
+    end_is : length (page_end_bytes (link_to left)) ≡ 2 + gap_length (is_some w.link)
+    end_is = sym (ap (λ (g : maybe.Option (List ℕ)). length (page_end_bytes g)) done.link) ∙ length_page_end w.link done.whole
 
-    ends_are : ends z w.linked ≡ ends z (has_page n (z.first - lo))
+    ends_are : ends z (is_some w.link) ≡ ends z (has_page n (z.first - lo))
     ends_are = omega (arith, end_is, end_size n f lo (z.first - lo))
 
-    own_least : ends z w.linked ≤ z.own
+    own_least : ends z (is_some w.link) ≤ z.own
     own_least = either n (λ q. omega (arith, b.sized.leaf q, ends_are)) (λ q. omega (arith, b.sized.inner q, ends_are))
 
     pub tail_fits : z.own + w.len ≤ length o
@@ -206,18 +207,18 @@ module _ {s u row : List ℕ} {lo hi n : ℕ} {o : List ℕ} {z : Size} {ys : Li
     start_room = (omega (arith, b.sized.few), omega (arith, own_least, first_length, b.room))
 
     -- the places of the entries and of the tables below them
-    pub foot_within : (foot : ℕ) → foot ≡ 2 + gap_length w.linked → foot ≤ z.own
+    pub foot_within : (foot : ℕ) → foot ≡ 2 + gap_length (is_some w.link) → foot ≤ z.own
     foot_within foot e = omega (arith, own_least)
 
-    pub places : (start foot : ℕ) (x : List ℕ) → start ≡ 3 + number_length z.count → foot ≡ 2 + gap_length w.linked → length x ≡ length o
+    pub places : (start foot : ℕ) (x : List ℕ) → start ≡ 3 + number_length z.count → foot ≡ 2 + gap_length (is_some w.link) → length x ≡ length o
         → (start ≤ z.own - foot) × (z.own - foot ≤ z.own + w.len) × (z.own + w.len ≤ length x)
     places start foot x es₀ ef ex = (omega (arith, own_least), omega (arith, own_least), omega (arith, tail_fits))
 
     fit_is : (x : List ℕ) (start : ℕ) → length x ≡ length o → start ≡ 3 + number_length z.count
-        → entries_fit es start (z.own - (2 + gap_length w.linked)) (z.own + w.len) x ≡ leb (length (table (spelt tree))) (length o)
+        → entries_fit es start (z.own - (2 + gap_length (is_some w.link))) (z.own + w.len) x ≡ leb (length (table (spelt tree))) (length o)
     unfolding entries_fit
     fit_is x start ex est =
-        let foot = 2 + gap_length w.linked in
+        let foot = 2 + gap_length (is_some w.link) in
         either n
         (λ q.
         let behind : z.own + w.len + length (tables_of [] es) ≡ z.own = omega (arith, done.size, no_left q, no_below q) in
@@ -229,54 +230,72 @@ module _ {s u row : List ℕ} {lo hi n : ℕ} {o : List ℕ} {z : Size} {ys : Li
         rw (ex, size) (fits_inner start (length (entries_bytes [] es)) foot z.own w.len (length (tables_of [] es)) (length o) own))
 
 -- ---- after the entries
-pub record Entered (s u row : List ℕ) (lo hi n : ℕ) (o : List ℕ) (z : Size) (ys : List ℕ) (w : Below) (after : List ℕ) (r : Laid) : Type 0 where
-  pub begun : Begun s u row lo hi n o z ys w
-  pub fine : not w.room ≡ false
+pub record Entered (s u row : List ℕ) (lo hi n : ℕ) (o : List ℕ) (z : Size) (ys : List ℕ) (r : Option Below) (w : Below) (after : List ℕ) (l : Option Laid) : Type 0 where
+  pub begun : Begun s u row lo hi n o z ys r
+  pub fine : r ≡ Some w
   pub x : List ℕ
   pub start : ℕ
   pub is : x ≡ front (page_start_bytes z.count) (back z.own o ys)
   pub place : start ≡ 3 + number_length z.count
   pub same : length x ≡ length o
   pub kept : length after ≡ length o
-  pub laid : EntriesWritten (entries_at n (record_in s u row) z.first hi) start (z.own - (2 + gap_length w.linked)) (z.own + w.len) x after r
+  pub laid : EntriesWritten (entries_at n (record_in s u row) z.first hi) start (z.own - (2 + gap_length (is_some w.link))) (z.own + w.len) x after l
 
-module _ {s u row : List ℕ} {lo hi n : ℕ} {o : List ℕ} {z : Size} {ys : List ℕ} {w : Below} {after : List ℕ} {r : Laid} (t : Entered s u row lo hi n o z ys w after r) where
+-- by what the calls before it say
+pub entered : {s u row : List ℕ} {lo hi n : ℕ} {o : List ℕ} {z : Size} {ys : List ℕ} {r : Option Below} (b : Begun s u row lo hi n o z ys r) {w : Below} → r ≡ Some w
+    → (x : List ℕ) (start : ℕ) → x ≡ front (page_start_bytes z.count) (back z.own o ys) → start ≡ 3 + number_length z.count → length x ≡ length (back z.own o ys)
+    → (foot : ℕ) → foot ≡ 2 + gap_length (is_some w.link) → (after : List ℕ) → length after ≡ length x → {l : Option Laid}
+    → EntriesWritten (entries_at n (record_in s u row) z.first hi) start (z.own - foot) (z.own + w.len) x after l
+    → Entered s u row lo hi n o z ys r w after l
+entered b e x start is place same foot ef after kept laid = record {
+  begun = b;
+  fine = e;
+  x = x;
+  start = start;
+  is = is;
+  place = place;
+  same = same ∙ first_length b e;
+  kept = kept ∙ same ∙ first_length b e;
+  laid = rw ef at laid;
+}
+
+module _ {s u row : List ℕ} {lo hi n : ℕ} {o : List ℕ} {z : Size} {ys : List ℕ} {r : Option Below} {w : Below} {after : List ℕ} {l : Option Laid} (t : Entered s u row lo hi n o z ys r w after l) where
   abbrev page : Page Record (List ℕ)
   page = page_at s u row lo hi n
 
-  room_is : r.room ≡ leb (length (table (spelt page))) (length o)
+  room_is : is_some l ≡ leb (length (table (spelt page))) (length o)
   room_is = t.laid.room ∙ fit_is t.begun t.fine t.x t.start t.same t.place
 
-  pub entries_lack : not r.room ≡ true → length o < length (table (spelt page))
-  entries_lack y = leb-false (length (table (spelt page))) (length o) (sym room_is ∙ not-true r.room y)
+  pub entries_lack : l ≡ None → length o < length (table (spelt page))
+  entries_lack y = leb-false (length (table (spelt page))) (length o) (sym room_is ∙ ap is_some y)
 
-  module _ (y : not r.room ≡ false) where
-    yes : r.room ≡ true
-    yes = not-false r.room y
+  module _ {v : Laid} (y : l ≡ Some v) where
+    laid_is : EntriesDone (entries_at n (record_in s u row) z.first hi) t.start (z.own + w.len) t.x after v
+    laid_is = subst (λ (q : Option Laid). IfSome q (EntriesDone (entries_at n (record_in s u row) z.first hi) t.start (z.own + w.len) t.x after)) y t.laid.done
 
     table_fits : length (table (spelt page)) ≤ length o
-    table_fits = leb-true (length (table (spelt page))) (length o) (sym room_is ∙ yes)
+    table_fits = leb-true (length (table (spelt page))) (length o) (sym room_is ∙ ap is_some y)
 
-    page_is : r.at + (2 + gap_length w.linked) ≡ length (bytes_of_page (spelt page))
-    page_is = omega (arith, t.laid.ends yes, t.place, page_size t.begun, end_is t.begun t.fine)
+    page_is : v.at + (2 + gap_length (is_some w.link)) ≡ length (bytes_of_page (spelt page))
+    page_is = omega (arith, laid_is.ends, t.place, page_size t.begun, end_is t.begun t.fine)
 
-    whole_is : r.at + (2 + gap_length w.linked) + w.len + r.below ≡ length (table (spelt page))
-    whole_is = omega (arith, page_is, t.laid.tables yes, (done t.begun t.fine).size, total t.begun)
+    whole_is : v.at + (2 + gap_length (is_some w.link)) + w.len + v.below ≡ length (table (spelt page))
+    whole_is = omega (arith, page_is, laid_is.tables, (done t.begun t.fine).size, total t.begun)
 
-    pub whole_fits : r.at + (2 + gap_length w.linked) + w.len + r.below ≤ length o
+    pub whole_fits : v.at + (2 + gap_length (is_some w.link)) + w.len + v.below ≤ length o
     whole_fits = omega (arith, whole_is, table_fits)
 
-    pub at_within : r.at ≤ length after
+    pub at_within : v.at ≤ length after
     at_within = omega (arith, whole_fits, t.kept)
 
-    pub end_room : 2 + gap_length w.linked ≤ length (lent r.at after)
-    end_room = omega (arith, whole_fits, t.kept, length-take-le (length after - r.at) (drop r.at after) (omega (arith, length-drop r.at after)))
+    pub end_room : 2 + gap_length (is_some w.link) ≤ length (lent v.at after)
+    end_room = omega (arith, whole_fits, t.kept, length-take-le (length after - v.at) (drop v.at after) (omega (arith, length-drop v.at after)))
 
-    pub end_length : (zs : List ℕ) → length zs ≡ length (lent r.at after) → length (back r.at after zs) ≡ length o
-    end_length zs e = part_length r.at after (length after - r.at) (omega (arith, at_within)) zs e ∙ t.kept
+    pub end_length : (zs : List ℕ) → length zs ≡ length (lent v.at after) → length (back v.at after zs) ≡ length o
+    end_length zs e = part_length v.at after (length after - v.at) (omega (arith, at_within)) zs e ∙ t.kept
 
-    written_is : (zs : List ℕ) → zs ≡ front (page_end_bytes (link_if w.linked w.digest)) (lent r.at after)
-        → back r.at after zs ≡ front (table (spelt page)) o
+    written_is : (zs : List ℕ) → zs ≡ front (page_end_bytes (link_held w.link)) (lent v.at after)
+        → back v.at after zs ≡ front (table (spelt page)) o
     written_is zs ez =
         let b = t.begun in
         let gap = done b t.fine in
@@ -289,22 +308,22 @@ module _ {s u row : List ℕ} {lo hi n : ℕ} {o : List ℕ} {z : Size} {ys : Li
         let T = tables_of [] es in
         let foot = end_is b t.fine in
         let sl : length S ≡ t.start = length_page_start z.count ∙ sym t.place in
-        let zs-is : zs ≡ front E (lent r.at after) = ez ∙ rw gap.link in
-        let end : back r.at after zs ≡ overwritten r.at E after =
-        ap (λ (q : List ℕ). take r.at after ++ (q ++ drop (length after - r.at) (drop r.at after))) zs-is
-        ∙ over_part r.at after at_within E (length after - r.at) (omega (arith, whole_fits, foot, t.kept)) (omega (arith, at_within)) in
+        let zs-is : zs ≡ front E (lent v.at after) = ez ∙ rw gap.link in
+        let end : back v.at after zs ≡ overwritten v.at E after =
+        ap (λ (q : List ℕ). take v.at after ++ (q ++ drop (length after - v.at) (drop v.at after))) zs-is
+        ∙ over_part v.at after at_within E (length after - v.at) (omega (arith, whole_fits, foot, t.kept)) (omega (arith, at_within)) in
         let x-is : t.x ≡ overwritten 0 S (overwritten z.own L o) = t.is ∙ over_front S (back z.own o ys) ∙ ap (overwritten 0 S) (first_is b t.fine) in
         let all : parts S B E L T o z.own ≡ front (((S ++ B) ++ E) ++ (L ++ T)) o =
         either n (λ q. parts_leaf S B E L T o z.own (leaf_gap n _ q) (leaf_tables n f z.first hi q) b.room (omega (arith, sl, t.place, own_least b t.fine)))
         (λ q. parts_inner S B E L T o z.own (omega (arith, b.sized.inner q, ends_are b t.fine, foot, sl, t.place)) (omega (arith, b.sized.inner q, ends_are b t.fine, foot, page_size b, total b, table_fits))) in
         let whole : table (spelt page) ≡ ((S ++ B) ++ E) ++ (L ++ T) = table_is n f lo hi z.first (parted b) ∙ rw (bytes_is b) in
         end
-        ∙ rw (t.laid.ends yes, t.laid.wrote yes, x-is) (rw (sl, ← gap.size) at all)
+        ∙ rw (laid_is.ends, laid_is.wrote, x-is) (rw (sl, ← gap.size) at all)
         ∙ ap (λ (q : List ℕ). front q o) (sym whole)
 
-    pub finishes : (zs : List ℕ) → zs ≡ front (page_end_bytes (link_if w.linked w.digest)) (lent r.at after) → (len : ℕ) → len ≡ 2 + gap_length w.linked
-        → Written page o (back r.at after zs) (record { room = true; len = r.at + len + w.len + r.below; own = r.at + len; first = z.first })
+    pub finishes : (zs : List ℕ) → zs ≡ front (page_end_bytes (link_held w.link)) (lent v.at after) → (len : ℕ) → len ≡ 2 + gap_length (is_some w.link)
+        → Written page o (back v.at after zs) (Some (record { len = v.at + len + w.len + v.below; own = v.at + len; first = z.first }))
     finishes zs ez len el = record {
       room = sym (le-leb (length (table (spelt page))) (length o) table_fits);
-      done = λ _. record { wrote = written_is zs ez; size = omega (arith, whole_is); first = omega (arith, page_is) };
+      done = record { wrote = written_is zs ez; size = omega (arith, whole_is); first = omega (arith, page_is) };
     }

@@ -1,8 +1,8 @@
 -- The table of a row's first records, and the output that it stands in.
-use Rattle.std.specs.Prelude.{Ok, Err}
+use Rattle.std.specs.Prelude.{Ok, Err, Option, None, Some, is_some}
 use Prim.Native.Nat.{ℕ, ◌-◌, ◌≤◌, min}
 use mathlib.Core.Path.{◌≡◌, sym, ap, ◌∙◌}
-use mathlib.Core.Bool.{true, cond, ◌&&◌}
+use mathlib.Core.Bool.{true, false, ◌&&◌}
 use mathlib.Core.List.{List, ◌++◌, append_assoc}
 use native.Mathlib.Omega.{arith}
 use borrow.Author.Tests.{le-leb, lt-leb, leb-true, leb-false}
@@ -61,24 +61,24 @@ pub used_length : (o : List ℕ) (k : ℕ) → k ≡ min (length o) longest → 
 used_length o k e = length-take-le k o (omega arith)
 
 -- the table of t was written into the first k bytes of o
-pub record WrittenInto (t : Page Record (List ℕ)) (o : List ℕ) (k : ℕ) (ys : List ℕ) (r : Wrote) : Type 0 where
+pub record WrittenInto (t : Page Record (List ℕ)) (o : List ℕ) (k : ℕ) (ys : List ℕ) (r : Option Wrote) : Type 0 where
   pub used : k ≡ min (length o) longest
   pub kept : length ys ≡ length (take k o)
   pub written : Written t (take k o) ys r
 
-pub row_written : {s u row : List ℕ} {n : ℕ} → Row s u row n → (top : ℕ) → top ≡ top_layer (span (record_in s u row) 0 n) → {o : List ℕ} {k : ℕ} {ys : List ℕ} {r : Wrote}
+pub row_written : {s u row : List ℕ} {n : ℕ} → Row s u row n → (top : ℕ) → top ≡ top_layer (span (record_in s u row) 0 n) → {o : List ℕ} {k : ℕ} {ys : List ℕ} {r : Option Wrote}
     → k ≡ min (length o) longest → length ys ≡ length (take k o) → Written (page_at s u row 0 n top) (take k o) ys r → WrittenInto (tree_of_set (records_of s u row n)) o k ys r
 row_written row top e used kept w = record { used = used; kept = kept; written = rw (← row_tree row top e) w }
 
-module _ {t : Page Record (List ℕ)} {o : List ℕ} {k : ℕ} {ys : List ℕ} {r : Wrote} (w : WrittenInto t o k ys r) where
+module _ {t : Page Record (List ℕ)} {o : List ℕ} {k : ℕ} {ys : List ℕ} {r : Option Wrote} (w : WrittenInto t o k ys r) where
   lent_length : length (take k o) ≡ k
   lent_length = used_length o k w.used
 
-  pub fit_is : r.room ≡ fits_output (table (spelt t)) (length o)
+  pub fit_is : is_some r ≡ fits_output (table (spelt t)) (length o)
   unfolding fits_output
   fit_is = w.written.room ∙ rw (lent_length, w.used) (least_leb (length (table (spelt t))) (length o) longest)
 
-  module _ (e : r.room ≡ true) where
+  module _ {v : Wrote} (e : r ≡ Some v) where
     behind : List ℕ
     behind = drop (length (table (spelt t))) (take k o) ++ drop k o
 
@@ -95,31 +95,47 @@ module _ {t : Page Record (List ℕ)} {o : List ℕ} {k : ℕ} {ys : List ℕ} {
     unfolding behind
     whole_is = rw (table_done w.written e).wrote (append_assoc (table (spelt t)) (drop (length (table (spelt t))) (take k o)) (drop k o))
 
-    pub len_small : r.len ≤ longest
+    pub len_small : v.len ≤ longest
     len_small = omega (arith, (table_done w.written e).size, small, w.used)
 
-    pub len_fits : r.len ≤ length (ys ++ drop k o)
+    pub len_fits : v.len ≤ length (ys ++ drop k o)
     len_fits = omega (arith, (table_done w.written e).size, ap length whole_is, length-append (table (spelt t)) behind)
 
-    own_small : r.own ≤ length ys
+    own_small : v.own ≤ length ys
     own_small = own_fits w.written w.kept e
 
-    pub root_fits : r.own ≤ length (ys ++ drop k o)
+    pub root_fits : v.own ≤ length (ys ++ drop k o)
     root_fits = omega (arith, own_small, length-append ys (drop k o))
 
-    pub root_is : take r.own (ys ++ drop k o) ≡ bytes_of_page (spelt t)
-    root_is = take-append-le r.own ys (drop k o) own_small ∙ first_page w.written e
+    pub root_is : take v.own (ys ++ drop k o) ≡ bytes_of_page (spelt t)
+    root_is = take-append-le v.own ys (drop k o) own_small ∙ first_page w.written e
 
-    take_is : take r.len (ys ++ drop k o) ≡ table (spelt t)
-    take_is = rw whole_is (take_at (table (spelt t)) behind r.len (sym (table_done w.written e).size))
+    take_is : take v.len (ys ++ drop k o) ≡ table (spelt t)
+    take_is = rw whole_is (take_at (table (spelt t)) behind v.len (sym (table_done w.written e).size))
 
-  pub answer_is : cond r.room (Ok r.len) (Err NoRoom) ≡ table_answer (table (spelt t)) (length o)
-  unfolding table_answer
-  answer_is = cases r.room (λ e. rw (← fit_is, e, (table_done w.written e).size)) (λ e. rw (← fit_is, e))
+    same : length (ys ++ drop k o) ≡ length o
+    same = length_front o ys k w.kept
 
-  pub output_is :
-      cond r.room (take r.len (ys ++ drop k o) ++ zeros (length (ys ++ drop k o) - r.len)) (zeros (length (ys ++ drop k o))) ≡ table_output (table (spelt t)) (length o)
-  unfolding table_output
-  output_is =
-      let same : length (ys ++ drop k o) ≡ length o = length_front o ys k w.kept in
-      cases r.room (λ e. rw (same, take_is e, ← fit_is, e, (table_done w.written e).size)) (λ e. rw (same, ← fit_is, e))
+    pub fits : fits_output (table (spelt t)) (length o) ≡ true
+    fits = sym fit_is ∙ ap is_some e
+
+    pub answer_is : Ok v.len ≡ table_answer (table (spelt t)) (length o)
+    unfolding table_answer
+    answer_is = rw (fits, (table_done w.written e).size)
+
+    pub output_is : take v.len (ys ++ drop k o) ++ zeros (length (ys ++ drop k o) - v.len) ≡ table_output (table (spelt t)) (length o)
+    unfolding table_output
+    output_is = rw (same, take_is, fits, (table_done w.written e).size)
+
+  -- there was no room
+  module _ (e : r ≡ None) where
+    pub lacks : fits_output (table (spelt t)) (length o) ≡ false
+    lacks = sym fit_is ∙ ap is_some e
+
+    pub no_answer : Err NoRoom ≡ table_answer (table (spelt t)) (length o)
+    unfolding table_answer
+    no_answer = rw lacks
+
+    pub no_output : zeros (length (ys ++ drop k o)) ≡ table_output (table (spelt t)) (length o)
+    unfolding table_output
+    no_output = let same : length (ys ++ drop k o) ≡ length o = length_front o ys k w.kept in rw (same, lacks)

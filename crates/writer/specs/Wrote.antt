@@ -1,8 +1,8 @@
 -- What the writer of pages says.
-use Rattle.std.specs.Prelude.{ℕ, ◌+◌, ◌-◌, ◌≡◌, Bool, true, false, cond, ◌&&◌, List, [], ◌++◌, length, take, drop, leb}
-use Rattle.bytestring.specs.Bytes.{zeros, front}
+use Rattle.std.specs.Prelude.{ℕ, ◌+◌, ◌-◌, ◌≡◌, Bool, ◌&&◌, List, [], ◌++◌, length, take, drop, leb, Option, Some, is_some, IfSome}
+use Rattle.bytestring.specs.Bytes.{front}
 use Rattle.fips180.specs.Hash.{sha256}
-use Rattle.page_writer.specs.Front.{link_if}
+use Rattle.page_writer.specs.Front.{link_held}
 use Rattle.tree.specs.Tree.{Page, Gap, Entries, build}
 use Rattle.tree.specs.Record.{Record, spelt, spelt_under, spelt_from}
 use Rattle.tree.specs.Table.{link_of, bytes_of_page, table, table_under, table_from, digest_of}
@@ -29,27 +29,24 @@ pub record TableDone (t : Page Record (List ℕ)) (before after : List ℕ) (len
   pub first : own ≡ length (bytes_of_page (spelt t))
 
 -- There is no room exactly when the table is longer than what was lent.
-pub record Written (t : Page Record (List ℕ)) (before after : List ℕ) (r : Wrote) : Type 0 where
-  pub room : r.room ≡ leb (length (table (spelt t))) (length before)
-  pub done : r.room ≡ true → TableDone t before after r.len r.own
+pub record Written (t : Page Record (List ℕ)) (before after : List ℕ) (r : Option Wrote) : Type 0 where
+  pub room : is_some r ≡ leb (length (table (spelt t))) (length before)
+  pub done : IfSome r (λ w. TableDone t before after w.len w.own)
 
 -- The same of a gap.
-pub record GapDone (g : Gap Record (List ℕ)) (before after : List ℕ) (len : ℕ) (linked : Bool) (digest : List ℕ) : Type 0 where
+pub record GapDone (g : Gap Record (List ℕ)) (before after : List ℕ) (len : ℕ) (digest : Option (List ℕ)) : Type 0 where
   pub wrote : after ≡ front (table_under (spelt_under g)) before
   pub size : len ≡ length (table_under (spelt_under g))
-  pub link : link_if linked digest ≡ link_of (spelt_under g)
-  pub whole : length digest ≡ 32
+  pub link : link_held digest ≡ link_of (spelt_under g)
+  pub whole : IfSome digest (λ d. length d ≡ 32)
 
-pub record GapWritten (g : Gap Record (List ℕ)) (before after : List ℕ) (r : Below) : Type 0 where
-  pub room : r.room ≡ leb (length (table_under (spelt_under g))) (length before)
-  pub done : r.room ≡ true → GapDone g before after r.len r.linked r.digest
+pub record GapWritten (g : Gap Record (List ℕ)) (before after : List ℕ) (r : Option Below) : Type 0 where
+  pub room : is_some r ≡ leb (length (table_under (spelt_under g))) (length before)
+  pub done : IfSome r (λ b. GapDone g before after b.len b.link)
 
--- What a gap has where a page was written into it: the digest of that page's bytes, or that there was no room.
+-- What a gap has where a page was written into it: the digest of that page's bytes.
 unfoldable pub below_of : Wrote → List ℕ → Below
-below_of w out =
-    cond w.room
-    (record { room = true; linked = true; len = w.len; digest = sha256 (take w.own out) })
-    (record { room = false; linked = false; len = 0; digest = zeros 32 })
+below_of w out = record { len = w.len; link = Some (sha256 (take w.own out)) }
 
 -- An output with these bytes written over those from a place on.
 unfoldable pub overwritten : ℕ → List ℕ → List ℕ → List ℕ
@@ -59,9 +56,13 @@ overwritten place bytes out = take place out ++ (bytes ++ drop (place + length b
 unfoldable pub entries_fit : Entries Record (List ℕ) → ℕ → ℕ → ℕ → List ℕ → Bool
 entries_fit es start limit behind out = leb (start + length (entries_bytes [] es)) limit && leb (behind + length (tables_of [] es)) (length out)
 
--- They were written there, if they have room.
-pub record EntriesWritten (es : Entries Record (List ℕ)) (start limit behind : ℕ) (before after : List ℕ) (r : Laid) : Type 0 where
-  pub room : r.room ≡ entries_fit es start limit behind before
-  pub wrote : r.room ≡ true → after ≡ overwritten start (entries_bytes [] es) (overwritten behind (tables_of [] es) before)
-  pub ends : r.room ≡ true → r.at ≡ start + length (entries_bytes [] es)
-  pub tables : r.room ≡ true → r.below ≡ length (tables_of [] es)
+-- They were written there.
+pub record EntriesDone (es : Entries Record (List ℕ)) (start behind : ℕ) (before after : List ℕ) (r : Laid) : Type 0 where
+  pub wrote : after ≡ overwritten start (entries_bytes [] es) (overwritten behind (tables_of [] es) before)
+  pub ends : r.at ≡ start + length (entries_bytes [] es)
+  pub tables : r.below ≡ length (tables_of [] es)
+
+-- They are, if they have room.
+pub record EntriesWritten (es : Entries Record (List ℕ)) (start limit behind : ℕ) (before after : List ℕ) (r : Option Laid) : Type 0 where
+  pub room : is_some r ≡ entries_fit es start limit behind before
+  pub done : IfSome r (EntriesDone es start behind before after)

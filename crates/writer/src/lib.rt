@@ -16,7 +16,7 @@ ghost use Rattle.writer.specs.Wrote.{page_at, Written};
 ghost use Rattle.writer.specs.Output.{table_answer, table_output, table_headed};
 
 use crate::pages::{Wrote, write_page};
-use crate::refusal::refuse_headed;
+use crate::refusal::{refuse, refuse_headed};
 use answer::Refusal;
 use bytestring::{clear, same_bytes};
 use head::{Head, Headed};
@@ -28,24 +28,17 @@ use value::Digest;
 fn used(n: usize) -> usize
     ensures { result ≡ min n longest }
 {
-    if n < limits::LONGEST {
-        return n;
-    }
-    limits::LONGEST
+    n.min(limits::LONGEST)
 }
 
-// Zeros after the table that stands at the front of the output; where there was no room for it, number 13 and zeros.
-fn finish(out: &mut [u8], room: bool, len: usize) -> Result<u32, Refusal>
-    requires { room ≡ true → (len ≤ length out.old) × (len ≤ longest) }
-    ensures answer { result ≡ cond room (Ok len) (Err Refusal.NoRoom) }
-    ensures output { out.new ≡ cond room (take len out.old ++ zeros (length out.old - len)) (zeros (length out.old)) }
+// Zeros after the table of this length that stands at the front of the output.
+fn finish(out: &mut [u8], len: usize) -> u32
+    requires { (len ≤ length out.old) × (len ≤ longest) }
+    ensures count { result ≡ len }
+    ensures output { out.new ≡ take len out.old ++ zeros (length out.old - len) }
 {
-    if room {
-        clear(&mut out[len..]);
-        return Ok(len as u32);
-    }
-    clear(out);
-    Err(Refusal::NoRoom)
+    clear(&mut out[len..]);
+    len as u32
 }
 
 // The pages of the first n records of a row, from the root at this layer down.
@@ -58,7 +51,7 @@ fn write_pages(
     n: usize,
     top: usize,
     out: &mut [u8],
-) -> Wrote
+) -> Option<Wrote>
     requires { Row s.now u.now row.now n × EachLabelled s.now first_chains.now × EachLabelled u.now second_chains.now }
     ensures { Written (page_at s.now u.now row.now 0 n top) out.old out.new result }
 {
@@ -100,17 +93,12 @@ pub fn write_table(
     let room = used(out.len());
     let first_end = 2 * first_count;
     let second_end = 2 * second_count;
-    let w = write_pages(
-        s,
-        u,
-        &first_chains[..first_end],
-        &second_chains[..second_end],
-        row,
-        n,
-        top,
-        &mut out[..room],
-    );
-    finish(out, w.room, w.len)
+    let labels = &first_chains[..first_end];
+    let others = &second_chains[..second_end];
+    let Some(w) = write_pages(s, u, labels, others, row, n, top, &mut out[..room]) else {
+        return refuse(out, Refusal::NoRoom);
+    };
+    Ok(finish(out, w.len))
 }
 
 // The digest of a root page that was written, whose first entry is the record at this position. That of the lent register's root is at hand.
@@ -159,10 +147,9 @@ pub fn write_headed(
     let second_end = 2 * second_count;
     let labels = &first_chains[..first_end];
     let others = &second_chains[..second_end];
-    let w = write_pages(s, u, labels, others, row, n, top, &mut out[..room]);
-    if !w.room {
+    let Some(w) = write_pages(s, u, labels, others, row, n, top, &mut out[..room]) else {
         return refuse_headed(out, Refusal::NoRoom, head);
-    }
+    };
     let own = w.own;
     let lent = head.digest;
     let digest = written_digest(
@@ -184,9 +171,9 @@ pub fn write_headed(
         layer,
         digest,
     };
-    let answer = finish(out, true, w.len);
+    let len = finish(out, w.len);
     Headed {
-        answer,
+        answer: Ok(len),
         head: moved,
     }
 }

@@ -6,17 +6,8 @@ use answer::Refusal;
 use bytestring::clear;
 use head::{Head, Headed};
 
-// A refusal: its number is answered, and the output is zero.
-pub fn refuse(out: &mut [u8], refusal: Refusal) -> Result<u32, Refusal>
-    ensures answer { result ≡ Err refusal }
-    ensures output { out.new ≡ zeros (length out.old) }
-{
-    clear(out);
-    Err(refusal)
-}
-
-// The same of a call with two values.
-pub fn refuse_two(out: &mut [u8], refusal: Refusal) -> Result<(u32, u32), Refusal>
+// A refusal: it is answered, and the output is zero.
+pub fn refuse<T>(out: &mut [u8], refusal: Refusal) -> Result<T, Refusal>
     ensures answer { result ≡ Err refusal }
     ensures output { out.new ≡ zeros (length out.old) }
 {

@@ -1,7 +1,7 @@
 -- The tests of a call's arguments in their order, the table of a result, and what run answers and writes.
 use Rattle.std.specs.Prelude.{Result, Ok, Err}
 use Prim.Native.Nat.{ℕ, ◌≤◌, ◌<◌}
-use mathlib.Core.Path.{◌≡◌, refl, ◌∙◌}
+use mathlib.Core.Path.{◌≡◌, refl, sym, ◌∙◌}
 use mathlib.Core.Bool.{Bool, true, false, ◌&&◌}
 use mathlib.Core.Option.{Option, none, some}
 use mathlib.Core.List.{List, [], ◌∷◌, ◌++◌}
@@ -24,6 +24,12 @@ use Rattle.writer.specs.Output.{fits_output, table_answer, table_output}
 use Rattle.promises.specs.Outcome.{Outcome, stopped, room_test, sizes, settle, answer_of, output_of}
 use Rattle.promises.specs.Range.{is_between, records_between, run_tests, run_verdict, run_outcome}
 use Rattle.promises.proofs.Parts.{whose_few}
+use Rattle.std.specs.Prelude.{⊤}
+use Rattle.std.specs.Ordering.{is_lt}
+use Rattle.std.specs.declared.cmp.Ordering.{Ordering}
+use Rattle.std.specs.declared.cmp.Ordering.TheVariants.{Less, Equal, Greater}
+use Rattle.key.specs.Key.{less, order}
+use Rattle.key.proofs.Laws.{order_less, order_equal, order_greater, less_asymmetric, less_same}
 use Rattle.writing.specs.Tests.{range_tests, record_tests, answer_due}
 use Rattle.writing.specs.Writing.{written}
 
@@ -41,7 +47,7 @@ says_same room answer out e says = rw (← e) says
 
 -- ---- the first test that fails decides
 module _ (ts : List Test) where
-  pub test_holds : (r : Refusal) {b : Bool} {x : Result ℕ Refusal} → b ≡ true → x ≡ answer_due (due ts) → x ≡ answer_due (due ((r, b) ∷ ts))
+  pub test_holds : (r : Refusal) {b : Bool} {x : Result ⊤ Refusal} → b ≡ true → x ≡ answer_due (due ts) → x ≡ answer_due (due ((r, b) ∷ ts))
   unfolding due
   test_holds r e h = rw e h
 
@@ -53,16 +59,25 @@ module _ (ts : List Test) where
   unfolding due answer_due
   unlawful_fails k q = let w = slash_refused k _ q in rw (w.0, w.1)
 
-pub none_due : Ok 0 ≡ answer_due (due [])
+-- a comparison says whether the first is less
+less_of : (k l : List ℕ) (o : Ordering) → o ≡ order k l → less k l ≡ is_lt o
+less_of k l Less e = order_less k l (sym e)
+less_of k l Equal e = less_same k l (order_equal k l (sym e))
+less_of k l Greater e = less_asymmetric l k (order_greater k l (sym e))
+
+pub order_lt : (k l : List ℕ) (o : Ordering) → o ≡ order k l → {b : Bool} → b ≡ is_lt o → less k l ≡ b
+order_lt k l o e f = less_of k l o e ∙ sym f
+
+pub none_due : Ok tt ≡ answer_due (due [])
 unfolding due answer_due
 none_due = refl
 
-pub due_refused : (o : Option Refusal) {x : Result ℕ Refusal} {r : Refusal} → x ≡ answer_due o → x ≡ Err r → o ≡ some r
+pub due_refused : (o : Option Refusal) {x : Result ⊤ Refusal} {r : Refusal} → x ≡ answer_due o → x ≡ Err r → o ≡ some r
 unfolding answer_due
 due_refused none e h = let z : ◌≡◌ {A = ℕ} 0 1 = cc in absurd (omega arith)
 due_refused (some q) e h = cc
 
-pub due_done : (o : Option Refusal) {x : Result ℕ Refusal} {n : ℕ} → x ≡ answer_due o → x ≡ Ok n → o ≡ none
+pub due_done : (o : Option Refusal) {x : Result ⊤ Refusal} {n : ⊤} → x ≡ answer_due o → x ≡ Ok n → o ≡ none
 unfolding answer_due
 due_done none e h = refl
 due_done (some q) e h = let z : ◌≡◌ {A = ℕ} 0 1 = cc in absurd (omega arith)

@@ -1,6 +1,6 @@
 -- The tests of a call's own arguments, which come after the verdict on its register. Contracts inside this crate cite it, and no public
 -- contract does.
-use Rattle.std.specs.Prelude.{ℕ, not, List, [], ◌∷◌, Result, Ok, Err}
+use Rattle.std.specs.Prelude.{ℕ, not, List, [], ◌∷◌, Result, Ok, Err, ⊤}
 use Rattle.std.proofs.Math.Option.{Option, none, some}
 use Rattle.answer.specs.declared.Refusal.{Refusal}
 use Rattle.answer.specs.declared.Refusal.TheVariants.{UnlawfulKey, WrongValue, FirstAfterLast}
@@ -16,7 +16,7 @@ range_tests first last = (UnlawfulKey, lawful first) ∷ (UnlawfulKey, lawful la
 abbrev pub record_tests : List ℕ → List ℕ → List Test
 record_tests k v = (UnlawfulKey, lawful k) ∷ (WrongValue, is_value v) ∷ []
 
--- A refusal that is due is answered by its number, and none by 0.
-unfoldable pub answer_due : Option Refusal → Result ℕ Refusal
-answer_due none = Ok 0
+-- A refusal that is due is answered.
+unfoldable pub answer_due : Option Refusal → Result ⊤ Refusal
+answer_due none = Ok tt
 answer_due (some r) = Err r

@@ -4,7 +4,8 @@ ghost use Rattle.std.specs.Prelude.{◌≡◌, true, ◌≤◌, length};
 ghost use Rattle.key.specs.Key.{lawful};
 ghost use Rattle.value.specs.Value.{is_value};
 ghost use Rattle.tree.specs.Judge.{judge};
-ghost use Rattle.index.specs.Accepted.{AcceptedIndex, ChainRow};
+ghost use Rattle.index.specs.Accepted.{AcceptedIndex};
+ghost use Rattle.judge.specs.Standing.{Stands};
 ghost use Rattle.promises.specs.Outcome.{answer_of, output_of};
 ghost use Rattle.reading.specs.Positions.{accepted_records};
 ghost use Rattle.promises.specs.Map.{put};
@@ -13,36 +14,35 @@ ghost use Rattle.writing.specs.Setting.{RoomForMore};
 
 use crate::set::set_word;
 use answer::Refusal;
+use judge::accepted::Accepted;
 use row::search::search;
 use row_words::{leave_out, single};
 use value::Value;
 use writer::refusal::refuse;
 use writer::write_table;
 
-// The register of the records at the positions from low to before high. `index` and `count` are those of its records, `chains` and
-// `chain_count` those of its chains.
+// The register of the records at the positions from low to before high.
 pub fn write_range(
-    register: &[u8],
-    index: &[u64],
-    count: usize,
-    chains: &[u64],
-    chain_count: usize,
+    accepted: &Accepted,
     low: usize,
     high: usize,
     out: &mut [u8],
 ) -> Result<u32, Refusal>
-    requires { AcceptedIndex register.now index.now count × ChainRow register.now chains.now chain_count × (low ≤ high) × (high ≤ count) }
-    ensures answer { result ≡ answer_of (written (records_from low high (accepted_records (judge register.now))) (length out.old)) }
-    ensures output { out.new ≡ output_of (written (records_from low high (accepted_records (judge register.now))) (length out.old)) (length out.old) }
+    requires { Stands accepted.now × (low ≤ high) × (high ≤ length accepted.now.index.now) }
+    ensures answer { result ≡ answer_of (written (records_from low high (accepted_records (judge accepted.now.register.now))) (length out.old)) }
+    ensures output { out.new ≡ output_of (written (records_from low high (accepted_records (judge accepted.now.register.now))) (length out.old)) (length out.old) }
 {
+    let register = accepted.register;
+    let chains = accepted.chains;
+    let n = chains.len() / 2;
     write_table(
         register,
         register,
         chains,
-        chain_count,
+        n,
         chains,
-        chain_count,
-        &index[low..high],
+        n,
+        &accepted.index[low..high],
         high - low,
         out,
     )
@@ -65,10 +65,10 @@ pub fn put_record(
     let none = [0u64; 1];
     let word = single(key, value, &mut page);
     let found = search(register, index, count, key);
-    match set_word(register, &page, index, count, found, word, false) {
-        Some(m) => { write_table(register, &page, &none, 0, &none, 0, index, m, out) }
-        None => refuse(out, Refusal::TooManyRecords),
-    }
+    let Some(m) = set_word(register, &page, index, count, found, word, false) else {
+        return refuse(out, Refusal::TooManyRecords);
+    };
+    write_table(register, &page, &none, 0, &none, 0, index, m, out)
 }
 
 // The register without a key; number 12 where it is absent.
@@ -84,12 +84,10 @@ pub fn remove_record(
     ensures output { out.new ≡ output_of (written_without key.now (accepted_records (judge register.now)) (length out.old)) (length out.old) }
 {
     let none = [0u64; 1];
-    match search(register, index, count, key) {
-        Ok((position, _)) => {
-            leave_out(index, count, position);
-            let left = count - 1;
-            write_table(register, register, &none, 0, &none, 0, index, left, out)
-        }
-        Err(_) => refuse(out, Refusal::KeyAbsent),
-    }
+    let Ok((position, _)) = search(register, index, count, key) else {
+        return refuse(out, Refusal::KeyAbsent);
+    };
+    leave_out(index, count, position);
+    let left = count - 1;
+    write_table(register, register, &none, 0, &none, 0, index, left, out)
 }

@@ -1,10 +1,12 @@
 // The calls, with rows that are lent: one with a word for each record of a register and one with two words for each chain of its pages.
-// A register that is accepted goes on with its rows to a function of its own.
+// A register that is accepted goes on with its rows to a function of its own. Where one is refused, the output is cleared, so that each
+// refusal is named and none goes out by `?`.
 ghost use Rattle.std.specs.Prelude.{◌≡◌, length};
 ghost use Rattle.index.specs.Accepted.{AcceptedIndex, ChainRow};
 ghost use Rattle.promises.specs.Outcome.{answer_of, output_of};
 ghost use Rattle.promises.specs.Moved.{remove_outcome, moved_output, headed};
 ghost use Rattle.promises.specs.Range.{run_outcome};
+ghost use Rattle.judge.specs.Standing.{Stands};
 ghost use Rattle.judge.specs.Verdict.{RoomFor};
 ghost use Rattle.checking.specs.Lent.{TrueOf};
 ghost use Rattle.writing.specs.Writing.{set_outcome};
@@ -17,7 +19,7 @@ use answer::Refusal;
 use checking::judge_lent;
 use digests::root_end;
 use head::{Head, Headed};
-use judge::judge;
+use judge::accepted::{Accepted, accept};
 use key_calls::slash;
 use reading::accepted::{lower_bound, upper_bound};
 use row::search::search;
@@ -39,33 +41,29 @@ pub fn run_with_rows(
     ensures answer { result ≡ answer_of (run_outcome register.now first.now last.now (length out.old)) }
     ensures output { out.new ≡ output_of (run_outcome register.now first.now last.now (length out.old)) (length out.old) }
 {
-    match judge(register, index, chains) {
-        Ok((count, n)) => { run_accepted(register, first, last, index, count, chains, n, out) }
+    match accept(register, index, chains) {
+        Ok(accepted) => run_accepted(&accepted, first, last, out),
         Err(refusal) => refuse(out, refusal),
     }
 }
 
 // The same of a register that is accepted.
 fn run_accepted(
-    register: &[u8],
+    accepted: &Accepted,
     first: &[u8],
     last: &[u8],
-    index: &[u64],
-    count: usize,
-    chains: &[u64],
-    n: usize,
     out: &mut [u8],
 ) -> Result<u32, Refusal>
-    requires { AcceptedIndex register.now index.now count × ChainRow register.now chains.now n }
-    ensures answer { result ≡ answer_of (run_outcome register.now first.now last.now (length out.old)) }
-    ensures output { out.new ≡ output_of (run_outcome register.now first.now last.now (length out.old)) (length out.old) }
+    requires { Stands accepted.now }
+    ensures answer { result ≡ answer_of (run_outcome accepted.now.register.now first.now last.now (length out.old)) }
+    ensures output { out.new ≡ output_of (run_outcome accepted.now.register.now first.now last.now (length out.old)) (length out.old) }
 {
     if let Err(refusal) = test_range(first, last) {
         return refuse(out, refusal);
     }
-    let low = lower_bound(register, index, count, first);
-    let high = upper_bound(register, index, count, last);
-    write_range(register, index, count, chains, n, low, high, out)
+    let low = lower_bound(accepted, first);
+    let high = upper_bound(accepted, last);
+    write_range(accepted, low, high, out)
 }
 
 // Put, or join.
@@ -93,7 +91,8 @@ pub fn set_value_with_rows(
     }
 }
 
-// The same of a register that is accepted, and of its own head. The record stands in a page of its own, and its word goes into the index.
+// The same of a register that is accepted, and of its own head. The record stands in a page of its own, and its word goes into the index: so
+// the rows are no `Accepted` value, which only lends them.
 fn set_accepted(
     register: &[u8],
     head: Head,
@@ -118,14 +117,12 @@ fn set_accepted(
     let found = search(register, index, count, key);
     let end = root_end(register, chains, n);
     let root = &register[..end];
-    match set_word(register, &page, index, count, found, word, greater) {
-        Some(m) => {
-            write_headed(
-                register, &page, chains, n, chains, 0, index, m, root, head, out,
-            )
-        }
-        None => refuse_headed(out, Refusal::TooManyRecords, head),
-    }
+    let Some(m) = set_word(register, &page, index, count, found, word, greater) else {
+        return refuse_headed(out, Refusal::TooManyRecords, head);
+    };
+    write_headed(
+        register, &page, chains, n, chains, 0, index, m, root, head, out,
+    )
 }
 
 // The register without a key.
@@ -147,7 +144,7 @@ pub fn remove_with_rows(
     }
 }
 
-// The same of a register that is accepted, and of its own head.
+// The same of a register that is accepted, and of its own head. The index changes here too.
 fn remove_accepted(
     register: &[u8],
     head: Head,

@@ -1,10 +1,7 @@
-use Prim.Native.Nat.{◌*◌, ◌≤◌}
+use Prim.Native.Nat.{◌*◌, ◌-◌, ◌≤◌}
 use lib.ListN.{length}
 use Rattle.digests.proofs.LabelLoops.{SoFar}
 use Rattle.digests.proofs.labels_hold.Given as goal
 
 abbrev pub invariant-loop-k : goal.invariant-loop-k
-invariant-loop-k l = (l.k ≤ l.above) × (47 * l.above ≤ l.page) × (l.page ≤ l.end) × (l.end ≤ length l.s) × SoFar l.s l.link l.above l.page l.label l.k
-
-abbrev pub decreases-loop-k : goal.decreases-loop-k
-decreases-loop-k l = l.k
+invariant-loop-k l = (47 * l.above ≤ l.page) × (l.page ≤ l.end) × (l.end ≤ length l.s) × SoFar l.s l.link l.above l.page l.label (l.above - l.k)

@@ -1,7 +1,7 @@
 use mathlib.Core.Path.{ap}
 use mathlib.Core.Bool.{not}
 use borrow.Author.Rules.{rules}
-use Prim.Native.Nat.{ℕ, ◌-◌, ◌<◌}
+use Prim.Native.Nat.{ℕ, ◌<◌}
 use mathlib.Core.List.{List}
 use native.Mathlib.Omega.{arith}
 use lib.ListN.{length, get_or, set, length-set}
@@ -12,12 +12,12 @@ use Rattle.filing.proofs.file_pages.Goals as goal
 pub loop-i-init : goal.loop-i-init
 loop-i-init c =
     let a = c.args in
-    (search rules, search rules, search rules, search rules, λ g. none_filed a.states.now a.sequence.now a.words.now a.total g.raws)
+    (search rules, search rules, search rules, λ g. none_filed a.states.now a.sequence.now a.words.now a.total g.raws)
 
 pub returns-then-total-j : goal.returns-then-total-j
 returns-then-total-j c g =
     let l = c.loop-i in
-    λ m. no_word_left g l.words l.i l.j (l.invariant.4 g) m c.loop-i-test.true c.if-total-j.true
+    λ m. no_word_left g l.words l.i l.j (l.invariant.3 g) m c.loop-i-test.true c.if-total-j.true
 
 pub hash_page-digest-requires : goal.hash_page-digest-requires
 hash_page-digest-requires c = (standing_pages c.requires, c.loop-i-test.true)
@@ -32,7 +32,7 @@ pub names_digest-requires : goal.names_digest-requires
 names_digest-requires c =
     let pre = c.requires in
     let l = c.loop-i in
-    (in_strings pre l.words l.j (l.invariant.4 pre).rest l.j (omega arith) (omega arith), search rules)
+    (in_strings pre l.words l.j (l.invariant.3 pre).rest l.j (omega arith) (omega arith), search rules)
 
 pub returns-then-not-names_digest : goal.returns-then-not-names_digest
 returns-then-not-names_digest c g =
@@ -40,7 +40,7 @@ returns-then-not-names_digest c g =
     let page = c.hash_page-digest in
     let test = c.names_digest in
     let other = not_named _ _ test.result test.ensures (ap not c.if-not-names_digest.true) in
-    λ m. must_be_named g l.words l.i l.j (l.invariant.4 g) m c.loop-i-test.true (omega arith)
+    λ m. must_be_named g l.words l.i l.j (l.invariant.3 g) m c.loop-i-test.true (omega arith)
     page.result (page.ensures (standing_pages g)) other
 
 pub offset_bounds-words-i : goal.offset_bounds-words-i
@@ -55,8 +55,8 @@ pass_words-j-requires c =
     let l = c.loop-i in
     let there : l.i < length l.words = omega (arith, pre.room) in
     let labels : List ℕ = set l.words l.i (get_or l.words l.j 0) in
-    let rest = same_rest pre l.words l.i l.j (l.invariant.4 pre) l.invariant.1 there in (
-      l.invariant.2,
+    let rest = same_rest pre l.words l.i l.j (l.invariant.3 pre) l.invariant.0 there in (
+      l.invariant.1,
       omega (arith, pre.room, length-set l.words l.i (get_or l.words l.j 0)),
       in_strings pre labels l.j rest,
       search rules,
@@ -72,17 +72,16 @@ loop-i-preserved c =
     let there : l.i < length l.words = omega (arith, pre.room) in
     let right = is_named _ _ test.result test.ensures (ap not c.if-not-names_digest.false) in
     let more : l.j < c.args.total = omega arith in
-    let ahead = goes_ahead pre l.words l.i l.j (l.invariant.4 pre) l.invariant.1 there more
+    let ahead = goes_ahead pre l.words l.i l.j (l.invariant.3 pre) l.invariant.0 there more
     page.result (page.ensures (standing_pages pre)) right past.result past.ensures in (
-      omega (arith, c.loop-i-test.true),
       omega (arith, ahead),
       past.ensures.within,
       omega (arith, length-set l.words l.i (get_or l.words l.j 0)),
-      λ g. one_filed g l.words l.i l.j (l.invariant.4 g) l.invariant.1 there more
+      λ g. one_filed g l.words l.i l.j (l.invariant.3 g) l.invariant.0 there more
           page.result (page.ensures (standing_pages g)) right past.result past.ensures,
     )
 
 pub returns : goal.returns
 returns c g =
     let l = c.loop-i in
-    filing_ends g l.words l.i l.j (l.invariant.4 g) (omega arith) l.invariant.1 l.invariant.2 l.invariant.3
+    filing_ends g l.words l.i l.j (l.invariant.3 g) (omega arith) l.invariant.0 l.invariant.1 l.invariant.2

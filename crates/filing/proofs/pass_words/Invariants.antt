@@ -1,9 +1,6 @@
-use Prim.Native.Nat.{◌-◌, ◌≤◌}
+use Prim.Native.Nat.{◌≤◌}
 use Rattle.filing.proofs.Passing.{Same}
 use Rattle.filing.proofs.pass_words.Given as goal
 
 abbrev pub invariant-loop-k : goal.invariant-loop-k
-invariant-loop-k l = (l.j ≤ l.k) × (l.k ≤ l.total) × Same l.states l.sequence l.words l.total l.j l.digest l.k
-
-abbrev pub decreases-loop-k : goal.decreases-loop-k
-decreases-loop-k l = l.total - l.k
+invariant-loop-k l = (l.j ≤ l.k) × Same l.states l.sequence l.words l.total l.j l.digest l.k

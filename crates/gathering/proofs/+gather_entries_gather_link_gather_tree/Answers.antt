@@ -1,5 +1,4 @@
 use borrow.Author.Rules.{rules}
-use Prim.Native.Nat.{◌-◌}
 use mathlib.Core.Path.{refl}
 use native.Mathlib.Omega.{arith}
 use Rattle.gathering.proofs.Falling.{link_falls, below_one, below_two, one_less}
@@ -9,44 +8,44 @@ use Rattle.gathering.proofs.Turns.{turns_begin, turns_end, total_within, turns_g
 use Rattle.gathering.proofs.+gather_entries_gather_link_gather_tree.Goals as goal
 
 pub gather_entries-loop-j-init : goal.gather_entries-loop-j-init
-gather_entries-loop-j-init t c = (omega arith, refl, λ g. turns_begin g _)
+gather_entries-loop-j-init t c = (refl, λ g. turns_begin g _)
 
 pub gather_entries-slice_bounds-gather_link-count : goal.gather_entries-slice_bounds-gather_link-count
-gather_entries-slice_bounds-gather_link-count t c = let l = c.loop-j in total_within c.requires (l.invariant.2 c.requires) l.invariant.1
+gather_entries-slice_bounds-gather_link-count t c = let l = c.loop-j in total_within c.requires (l.invariant.1 c.requires) l.invariant.0
 
 pub gather_entries-slice_bounds-gather_link-start : goal.gather_entries-slice_bounds-gather_link-start
-gather_entries-slice_bounds-gather_link-start t c = let l = c.loop-j in total_within c.requires (l.invariant.2 c.requires) l.invariant.1
+gather_entries-slice_bounds-gather_link-start t c = let l = c.loop-j in total_within c.requires (l.invariant.1 c.requires) l.invariant.0
 
 pub gather_entries-gather_link-requires : goal.gather_entries-gather_link-requires
 gather_entries-gather_link-requires t c =
     let g = c.requires in
-    (below_one c.decreases, turn_stands g (c.loop-j.invariant.2 g) c.loop-j-test.true _ c.locate_entry.ensures c.in-Ok.e c.in-Ok.is)
+    (below_one c.decreases, turn_stands g (c.loop-j.invariant.1 g) c.loop-j-test.true _ c.locate_entry.ensures c.in-Ok.e c.in-Ok.is)
 
 pub gather_entries-overflow_add-total : goal.gather_entries-overflow_add-total
 gather_entries-overflow_add-total t c =
     let g = c.requires in
     let l = c.loop-j in
     let w = c.gather_link in
-    omega (arith, turn_fits g (l.invariant.2 g) c.loop-j-test.true _ c.locate_entry.ensures c.in-Ok.e c.in-Ok.is l.invariant.1 _ _ w.ensures c.in-Some.more c.in-Some.is w.auto.out)
+    omega (arith, turn_fits g (l.invariant.1 g) c.loop-j-test.true _ c.locate_entry.ensures c.in-Ok.e c.in-Ok.is l.invariant.0 _ _ w.ensures c.in_ok-more.more c.in_ok-more.was w.auto.out)
 
-pub gather_entries-returns-in-None : goal.gather_entries-returns-in-None
-gather_entries-returns-in-None t c =
+pub gather_entries-returns-in_err-more : goal.gather_entries-returns-in_err-more
+gather_entries-returns-in_err-more t c =
     let l = c.loop-j in
-    λ g. no_room_turn g (l.invariant.2 g) c.loop-j-test.true _ c.locate_entry.ensures c.in-Ok.e c.in-Ok.is l.invariant.1 _ _ c.gather_link.ensures c.in-None.is
+    λ g. rw c.from_residual.ensures (no_room_turn g (l.invariant.1 g) c.loop-j-test.true _ c.locate_entry.ensures c.in-Ok.e c.in-Ok.is l.invariant.0 _ _ c.gather_link.ensures c.in_err-more.was)
 
-pub gather_entries-returns-in-Err : goal.gather_entries-returns-in-Err
-gather_entries-returns-in-Err t c =
+pub gather_entries-returns-in_default : goal.gather_entries-returns-in_default
+gather_entries-returns-in_default t c =
     let l = c.loop-j in
-    λ g. absurd (turns_go_on g (l.invariant.2 g) c.loop-j-test.true _ c.locate_entry.ensures c.in-Err.field-0 c.in-Err.is)
+    λ g. absurd (turns_go_on g (l.invariant.1 g) c.loop-j-test.true _ c.locate_entry.ensures _ c.in_default.is)
 
 pub gather_entries-loop-j-preserved : goal.gather_entries-loop-j-preserved
 gather_entries-loop-j-preserved t c =
     let l = c.loop-j in
     let h = c.loop-j-test.true in
-    (omega arith, search rules, λ g. turn_gathered g (l.invariant.2 g) h _ c.locate_entry.ensures c.in-Ok.e c.in-Ok.is l.invariant.1 _ _ c.gather_link.ensures c.in-Some.more c.in-Some.is)
+    (search rules, λ g. turn_gathered g (l.invariant.1 g) h _ c.locate_entry.ensures c.in-Ok.e c.in-Ok.is l.invariant.0 _ _ c.gather_link.ensures c.in_ok-more.more c.in_ok-more.was)
 
 pub gather_entries-returns : goal.gather_entries-returns
-gather_entries-returns t c = let l = c.loop-j in λ g. turns_end g (l.invariant.2 g) c.loop-j-test.false
+gather_entries-returns t c = let l = c.loop-j in λ g. turns_end g (l.invariant.1 g) (omega (arith, c.loop-j-test))
 
 pub gather_link-returns-then-link-eq0 : goal.gather_link-returns-then-link-eq0
 gather_link-returns-then-link-eq0 t c g = link_none g c.if-link-eq0.true _
@@ -71,85 +70,85 @@ gather_link-returns t c =
     λ g. link_followed g c.if-link-eq0.false r.result r.ensures c.args.out.now w.result w.new.out w.ensures
 
 pub gather_tree-overflow_sub-own : goal.gather_tree-overflow_sub-own
-gather_tree-overflow_sub-own t c = own_ahead c.requires _ refl _ c.read_page.ensures c.in-Ok.p c.in-Ok.is
+gather_tree-overflow_sub-own t c = own_ahead c.requires _ c.word_place-at.ensures _ c.read_page.ensures c.in-Ok.p c.in-Ok.is
 
 pub gather_tree-returns-then-out-own : goal.gather_tree-returns-then-out-own
 gather_tree-returns-then-out-own t c =
-    λ g. no_room_own g _ refl _ c.read_page.ensures c.in-Ok.p c.in-Ok.is c.args.out.now c.if-out-own.true
+    λ g. no_room_own g _ c.word_place-at.ensures _ c.read_page.ensures c.in-Ok.p c.in-Ok.is c.args.out.now c.if-out-own.true
 
 pub gather_tree-slice_bounds-write_bytes-count : goal.gather_tree-slice_bounds-write_bytes-count
-gather_tree-slice_bounds-write_bytes-count t c = own_ahead c.requires _ refl _ c.read_page.ensures c.in-Ok.p c.in-Ok.is
+gather_tree-slice_bounds-write_bytes-count t c = own_ahead c.requires _ c.word_place-at.ensures _ c.read_page.ensures c.in-Ok.p c.in-Ok.is
 
 pub gather_tree-slice_bounds-write_bytes-start : goal.gather_tree-slice_bounds-write_bytes-start
-gather_tree-slice_bounds-write_bytes-start t c = own_ahead c.requires _ refl _ c.read_page.ensures c.in-Ok.p c.in-Ok.is
+gather_tree-slice_bounds-write_bytes-start t c = own_ahead c.requires _ c.word_place-at.ensures _ c.read_page.ensures c.in-Ok.p c.in-Ok.is
 
 pub gather_tree-slice_bounds-write_bytes-end : goal.gather_tree-slice_bounds-write_bytes-end
-gather_tree-slice_bounds-write_bytes-end t c = own_within c.requires _ refl _ c.read_page.ensures c.in-Ok.p c.in-Ok.is
+gather_tree-slice_bounds-write_bytes-end t c = own_within c.requires _ c.word_place-at.ensures _ c.read_page.ensures c.in-Ok.p c.in-Ok.is
 
 pub gather_tree-returns-then-layer-eq0 : goal.gather_tree-returns-then-layer-eq0
 gather_tree-returns-then-layer-eq0 t c =
     let w = c.write_bytes in
-    λ g. leaf_written g _ refl _ c.read_page.ensures c.in-Ok.p c.in-Ok.is _ _ w.ensures w.auto.out c.if-layer-eq0.true
+    λ g. leaf_written g _ c.word_place-at.ensures _ c.read_page.ensures c.in-Ok.p c.in-Ok.is _ _ w.ensures w.auto.out c.if-layer-eq0.true
 
 pub gather_tree-slice_bounds-gather_link-count : goal.gather_tree-slice_bounds-gather_link-count
 gather_tree-slice_bounds-gather_link-count t c =
     let w = c.write_bytes in
-    own_inside c.requires _ refl _ c.read_page.ensures c.in-Ok.p c.in-Ok.is _ _ w.ensures w.auto.out
+    own_inside c.requires _ c.word_place-at.ensures _ c.read_page.ensures c.in-Ok.p c.in-Ok.is _ _ w.ensures w.auto.out
 
 pub gather_tree-slice_bounds-gather_link-start : goal.gather_tree-slice_bounds-gather_link-start
 gather_tree-slice_bounds-gather_link-start t c =
     let w = c.write_bytes in
-    own_inside c.requires _ refl _ c.read_page.ensures c.in-Ok.p c.in-Ok.is _ _ w.ensures w.auto.out
+    own_inside c.requires _ c.word_place-at.ensures _ c.read_page.ensures c.in-Ok.p c.in-Ok.is _ _ w.ensures w.auto.out
 
 pub gather_tree-gather_link-requires : goal.gather_tree-gather_link-requires
 gather_tree-gather_link-requires t c =
-    (below_two c.decreases, left_stands c.requires _ refl _ c.read_page.ensures c.in-Ok.p c.in-Ok.is)
+    (below_two c.decreases, left_stands c.requires _ c.word_place-at.ensures _ c.read_page.ensures c.in-Ok.p c.in-Ok.is)
 
 pub gather_tree-overflow_add-behind : goal.gather_tree-overflow_add-behind
 gather_tree-overflow_add-behind t c =
     let w = c.write_bytes in
     let l = c.gather_link in
-    omega (arith, left_fits c.requires _ refl _ c.read_page.ensures c.in-Ok.p c.in-Ok.is _ _ w.ensures w.auto.out _ _ l.ensures c.in-Some.left c.in-Some.is l.auto.out)
+    omega (arith, left_fits c.requires _ c.word_place-at.ensures _ c.read_page.ensures c.in-Ok.p c.in-Ok.is _ _ w.ensures w.auto.out _ _ l.ensures c.in_ok-left.left c.in_ok-left.was l.auto.out)
 
 pub gather_tree-slice_bounds-gather_entries-count : goal.gather_tree-slice_bounds-gather_entries-count
 gather_tree-slice_bounds-gather_entries-count t c =
     let w = c.write_bytes in
     let l = c.gather_link in
-    both_inside c.requires _ refl _ c.read_page.ensures c.in-Ok.p c.in-Ok.is _ _ w.ensures w.auto.out _ _ l.ensures c.in-Some.left c.in-Some.is l.auto.out
+    both_inside c.requires _ c.word_place-at.ensures _ c.read_page.ensures c.in-Ok.p c.in-Ok.is _ _ w.ensures w.auto.out _ _ l.ensures c.in_ok-left.left c.in_ok-left.was l.auto.out
 
 pub gather_tree-slice_bounds-gather_entries-start : goal.gather_tree-slice_bounds-gather_entries-start
 gather_tree-slice_bounds-gather_entries-start t c =
     let w = c.write_bytes in
     let l = c.gather_link in
-    both_inside c.requires _ refl _ c.read_page.ensures c.in-Ok.p c.in-Ok.is _ _ w.ensures w.auto.out _ _ l.ensures c.in-Some.left c.in-Some.is l.auto.out
+    both_inside c.requires _ c.word_place-at.ensures _ c.read_page.ensures c.in-Ok.p c.in-Ok.is _ _ w.ensures w.auto.out _ _ l.ensures c.in_ok-left.left c.in_ok-left.was l.auto.out
 
 pub gather_tree-gather_entries-requires : goal.gather_tree-gather_entries-requires
 gather_tree-gather_entries-requires t c =
-    (one_less _ c.decreases, row_stands c.requires _ refl _ c.read_page.ensures c.in-Ok.p c.in-Ok.is)
+    (one_less _ c.decreases, row_stands c.requires _ c.word_place-at.ensures _ c.read_page.ensures c.in-Ok.p c.in-Ok.is)
 
 pub gather_tree-overflow_add-result : goal.gather_tree-overflow_add-result
 gather_tree-overflow_add-result t c =
     let w = c.write_bytes in
     let l = c.gather_link in
     let r = c.gather_entries in
-    omega (arith, tree_fits c.requires _ refl _ c.read_page.ensures c.in-Ok.p c.in-Ok.is _ _ w.ensures w.auto.out _ _ l.ensures c.in-Some.left c.in-Some.is l.auto.out _ _ r.ensures c.in-Some-gather_entries.below c.in-Some-gather_entries.is r.auto.out)
+    omega (arith, tree_fits c.requires _ c.word_place-at.ensures _ c.read_page.ensures c.in-Ok.p c.in-Ok.is _ _ w.ensures w.auto.out _ _ l.ensures c.in_ok-left.left c.in_ok-left.was l.auto.out _ _ r.ensures c.in_ok-below.below c.in_ok-below.was r.auto.out)
 
-pub gather_tree-returns-in-Some-gather_entries : goal.gather_tree-returns-in-Some-gather_entries
-gather_tree-returns-in-Some-gather_entries t c =
+pub gather_tree-returns : goal.gather_tree-returns
+gather_tree-returns t c =
     let w = c.write_bytes in
     let l = c.gather_link in
-    λ g. tree_written g _ refl _ c.read_page.ensures c.in-Ok.p c.in-Ok.is _ _ w.ensures w.auto.out _ _ l.ensures c.in-Some.left c.in-Some.is l.auto.out _ _ c.gather_entries.ensures c.in-Some-gather_entries.below c.in-Some-gather_entries.is
+    λ g. tree_written g _ c.word_place-at.ensures _ c.read_page.ensures c.in-Ok.p c.in-Ok.is _ _ w.ensures w.auto.out _ _ l.ensures c.in_ok-left.left c.in_ok-left.was l.auto.out _ _ c.gather_entries.ensures c.in_ok-below.below c.in_ok-below.was
 
-pub gather_tree-returns-in-None-gather_entries : goal.gather_tree-returns-in-None-gather_entries
-gather_tree-returns-in-None-gather_entries t c =
+pub gather_tree-returns-in_err-below : goal.gather_tree-returns-in_err-below
+gather_tree-returns-in_err-below t c =
     let w = c.write_bytes in
     let l = c.gather_link in
-    λ g. no_room_row g _ refl _ c.read_page.ensures c.in-Ok.p c.in-Ok.is _ _ w.ensures w.auto.out _ _ l.ensures c.in-Some.left c.in-Some.is l.auto.out _ _ c.gather_entries.ensures c.in-None-gather_entries.is
+    λ g. rw c.from_residual-in_err-below.ensures (no_room_row g _ c.word_place-at.ensures _ c.read_page.ensures c.in-Ok.p c.in-Ok.is _ _ w.ensures w.auto.out _ _ l.ensures c.in_ok-left.left c.in_ok-left.was l.auto.out _ _ c.gather_entries.ensures c.in_err-below.was)
 
-pub gather_tree-returns-in-None : goal.gather_tree-returns-in-None
-gather_tree-returns-in-None t c =
+pub gather_tree-returns-in_err-left : goal.gather_tree-returns-in_err-left
+gather_tree-returns-in_err-left t c =
     let w = c.write_bytes in
-    λ g. no_room_left g _ refl _ c.read_page.ensures c.in-Ok.p c.in-Ok.is _ _ w.ensures w.auto.out _ _ c.gather_link.ensures c.in-None.is
+    λ g. rw c.from_residual.ensures (no_room_left g _ c.word_place-at.ensures _ c.read_page.ensures c.in-Ok.p c.in-Ok.is _ _ w.ensures w.auto.out _ _ c.gather_link.ensures c.in_err-left.was)
 
-pub gather_tree-returns-in-Err : goal.gather_tree-returns-in-Err
-gather_tree-returns-in-Err t c = λ g. absurd (tree_goes_on g _ refl _ c.read_page.ensures c.in-Err.field-0 c.in-Err.is)
+pub gather_tree-returns-in_default : goal.gather_tree-returns-in_default
+gather_tree-returns-in_default t c = λ g. absurd (tree_goes_on g _ c.word_place-at.ensures _ c.read_page.ensures _ c.in_default.is)

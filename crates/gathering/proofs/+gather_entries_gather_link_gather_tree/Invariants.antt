@@ -1,4 +1,4 @@
-use Prim.Native.Nat.{◌+◌, ◌-◌, ◌*◌, ◌≤◌}
+use Prim.Native.Nat.{◌+◌, ◌*◌}
 use mathlib.Core.Path.{◌≡◌}
 use lib.ListN.{length}
 use Rattle.gathering.specs.Inner.{EntriesStand}
@@ -10,11 +10,7 @@ decreases-gather_entries l = 3 * l.layer + 1
 
 abbrev pub invariant-gather_entries-loop-j : goal.invariant-gather_entries-loop-j
 invariant-gather_entries-loop-j l =
-    (l.j ≤ l.count) × (length l.out ≡ length l.initial.out) × ((g : EntriesStand l.states l.sequence l.labels l.pages l.n l.first l.count l.layer) → TreesSoFar g l.initial.out l.out l.total l.at l.j)
-
-abbrev pub decreases-gather_entries-loop-j : goal.decreases-gather_entries-loop-j
-decreases-gather_entries-loop-j l =
-    l.count - l.j
+    (length l.out ≡ length l.initial.out) × ((g : EntriesStand l.filed.states.now l.filed.sequence.now l.filed.labels.now l.filed.pages.now l.filed.n l.first l.count l.layer) → TreesSoFar g l.initial.out l.out l.total l.at l.j)
 
 abbrev pub decreases-gather_link : goal.decreases-gather_link
 decreases-gather_link l = 3 * l.layer

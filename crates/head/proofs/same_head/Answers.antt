@@ -1,15 +1,10 @@
-use mathlib.Core.Path.{◌∙◌}
-use borrow.Author.Rules.{rules}
-use Rattle.head.proofs.Laws.{other_count, other_layer, by_digest_lem}
+use mathlib.Core.Path.{ap, ◌∙◌}
+use mathlib.Core.Bool.{◌&&◌}
+use lib.Dec.{eqb}
+use Rattle.bytestring.proofs.Equal.{pointwise_equal}
+use Rattle.head.specs.Head.{same_head}
 use Rattle.head.proofs.same_head.Goals as goal
 
-pub returns-then-head-other : goal.returns-then-head-other
-returns-then-head-other c = search (rules, other_count)
-
-pub returns-then-head-other-2 : goal.returns-then-head-other-2
-returns-then-head-other-2 c = search (rules, other_layer)
-
 pub returns : goal.returns
-returns c =
-    let a = c.args in
-    c.same_bytes.ensures ∙ by_digest_lem a.head a.other c.if-head-other.false c.if-head-other-2.false
+unfolding same_head
+returns c = c.eq.ensures ∙ ap (λ b. eqb c.args.head.count c.args.other.count && (eqb c.args.head.layer c.args.other.layer && b)) (pointwise_equal c.args.head.digest c.args.other.digest)

@@ -1,6 +1,7 @@
 use native.Mathlib.Omega.{arith}
-use Rattle.judge.proofs.Verdicts.{too_long, ends_early_lem, departs_early, walked_whole}
+use Rattle.judge.proofs.Verdicts.{too_long, walk_stopped, walked_whole}
 use borrow.Author.Rules.{rules}
+use Rattle.std.proofs.lemmas.Result.{err_from_is_err_and}
 use Rattle.judge.proofs.judge.Goals as goal
 
 pub returns-then-s-gt-LONGEST : goal.returns-then-s-gt-LONGEST
@@ -11,16 +12,11 @@ verdict_of-requires c =
     let a = c.args in
     let pre = c.requires in
     let w = c.walk in
-    (omega (arith, c.if-s-gt-LONGEST), λ k few long. omega (arith, w.auto, pre.0 k few long), λ k few long. omega (arith, w.auto, pre.1 k few long), walked_whole a.s.now w.new.index w.new.row w.result c.in-Ok.st w.ensures c.in-Ok.is)
+    (omega (arith, c.if-s-gt-LONGEST), λ k few long. omega (arith, w.auto, pre.0 k few long), λ k few long. omega (arith, w.auto, pre.1 k few long), walked_whole a.s.now w.new.index w.new.row w.result c.in_ok-st.st w.ensures c.in_ok-st.was)
 
-pub returns-in-EndsEarly : goal.returns-in-EndsEarly
-returns-in-EndsEarly c =
+pub returns-in_err-st : goal.returns-in_err-st
+returns-in_err-st c =
     let a = c.args in
     let w = c.walk in
-    ends_early_lem a.s.now w.new.index w.new.row w.result c.in-Err.stop (omega (arith, c.if-s-gt-LONGEST)) w.ensures c.in-Err.is (search rules)
-
-pub returns-in-Departs : goal.returns-in-Departs
-returns-in-Departs c =
-    let a = c.args in
-    let w = c.walk in
-    departs_early a.s.now w.new.index w.new.row w.result c.in-Err.stop (omega (arith, c.if-s-gt-LONGEST)) w.ensures c.in-Err.is (search rules)
+    let (r, is, gives) = err_from_is_err_and c.from_residual.result c.from_residual.ensures.1 in
+    rw is (walk_stopped a.s.now w.new.index w.new.row w.result c.in_err-st.field-0.0 (omega (arith, c.if-s-gt-LONGEST)) w.ensures c.in_err-st.was r gives)

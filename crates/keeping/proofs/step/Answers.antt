@@ -21,7 +21,7 @@ add_part-requires c =
         next_places given a.progress rows a.out.now _ kept c.next_part-part.ensures a.out.now,
         omega (arith, rows.low, rows.pages, rows.words, given.few_pages, given.few_words),
       );
-      in_string_2 = c.requires.in_string;
+      last_in_string = c.requires.last_in_string;
     }
 
 pub go_on-requires : goal.go_on-requires
@@ -29,18 +29,18 @@ go_on-requires c =
     let pre = c.requires.to_keep in
     (omega (arith, pre.1.pages, pre.0.few_pages), omega (arith, pre.1.words, pre.0.few_words))
 
-pub returns-in-Some : goal.returns-in-Some
-returns-in-Some c =
+pub returns : goal.returns
+returns c =
     let v = c.add_part in
     let a = c.args in
     let kept = subst (PassedOver a.marks.now a.n a.progress.i) c.if-is_passed_over.false c.is_passed_over.ensures in
     step_goes_on c.requires.to_keep.0 a.progress c.requires.to_keep.1 a.out.now _ kept c.next_part-part.ensures _
-    v.result v.ensures c.in-Some.end c.in-Some.is c.go_on.result c.go_on.ensures
+    v.result v.ensures c.in_ok-end.end c.in_ok-end.was c.go_on.result c.go_on.ensures
 
-pub returns-in-None : goal.returns-in-None
-returns-in-None c =
+pub returns-in_err-end : goal.returns-in_err-end
+returns-in_err-end c =
     let v = c.add_part in
     let a = c.args in
     let kept = subst (PassedOver a.marks.now a.n a.progress.i) c.if-is_passed_over.false c.is_passed_over.ensures in
-    step_shares c.requires.to_keep.0 a.progress c.requires.to_keep.1 a.out.now _ kept c.next_part-part.ensures _
-    v.result v.ensures c.in-None.is
+    rw c.from_residual.ensures (step_shares c.requires.to_keep.0 a.progress c.requires.to_keep.1 a.out.now _ kept c.next_part-part.ensures _
+    v.result v.ensures c.in_err-end.was)

@@ -1,8 +1,8 @@
-use Prim.Native.Nat.{◌-◌}
 use mathlib.Core.Path.{refl, subst, ◌∙◌}
 use native.Mathlib.Omega.{arith}
 use Rattle.keeping.specs.Inner.{StepSays}
 use Rattle.keeping.proofs.Places.{sequence_start}
+use Rattle.keeping.proofs.Parts.{if_some}
 use Rattle.keeping.proofs.Ending.{nothing_written, written_shares, written_whole, written_short}
 use Rattle.keeping.proofs.write_kept.Goals as goal
 
@@ -15,63 +15,48 @@ loop-turn-init c =
       refl,
       refl,
       refl,
-      omega arith,
       record { pages = omega arith; words = omega arith; begins = sequence_start a.sequence.now; low = omega arith },
-      λ raws f. nothing_written raws a.sequence.now a.marks.now a.n a.register.now a.root_end a.chains.now a.words.now
-          a.m a.out.now _,
+      λ raws f. nothing_written raws a.sequence.now a.marks.now a.n a.register.now a.root_end a.chains.now a.words.now a.m a.out.now,
     )
 
-pub step-progress-requires : goal.step-progress-requires
-step-progress-requires c =
-    let i = c.loop-turn.invariant in record {
-      to_keep = (c.requires, i.4, omega (arith, i.1, i.2, c.loop-turn-test.true));
-      in_string = λ e. ((i.5 _ c.requires.filed.1).last e).stands.places;
+pub step-requires : goal.step-requires
+step-requires c =
+    let i = c.loop-turn.invariant in
+    let l = c.loop-turn in record {
+      to_keep = (c.requires, i.3, omega (arith, i.1, i.2, c.loop-turn-test.true));
+      last_in_string = if_some l.progress.last (λ t e. ((i.4 _ c.requires.filed.1).last t e).stands.places);
     }
 
-pub shape_of-out-then-progress : goal.shape_of-out-then-progress
-shape_of-out-then-progress c = c.step-progress.auto.out ∙ c.loop-turn.invariant.0
+pub shape_of-out-in_default : goal.shape_of-out-in_default
+shape_of-out-in_default c = c.step.auto.out ∙ c.loop-turn.invariant.0
 
-pub returns-then-progress : goal.returns-then-progress
-returns-then-progress c =
+pub returns-in_default : goal.returns-in_default
+returns-in_default c =
     let a = c.args in
     let l = c.loop-turn in
-    let v = c.step-progress in
+    let v = c.step in
     let says = subst
-    (StepSays a.states.now a.sequence.now a.labels.now a.marks.now a.n a.register.now a.root_end a.chains.now
-    a.words.now a.m l.progress l.out v.result v.new.out)
-    c.if-progress.true v.ensures in
+    (λ r. StepSays a.states.now a.sequence.now a.labels.now a.marks.now a.n a.register.now a.root_end a.chains.now
+    a.words.now a.m l.progress l.out r v.new.out)
+    c.in_default.is v.ensures in
     λ raws qs f q.
-    written_shares a.marks.now f q a.out.now v.new.out (says raws a.out.now f (l.invariant.5 raws f))
+    written_shares a.marks.now f q a.out.now v.new.out (says raws a.out.now f (l.invariant.4 raws f))
     (v.auto.out ∙ l.invariant.0)
-
-pub overflow_add-turn : goal.overflow_add-turn
-overflow_add-turn c =
-    omega (
-      arith,
-      c.loop-turn-test.true,
-      c.requires.few_pages,
-      c.requires.few_words,
-      c.loop-turn.invariant.2,
-    )
-
-pub loop-turn-smaller : goal.loop-turn-smaller
-loop-turn-smaller c = omega (arith, c.loop-turn-test.true)
 
 pub loop-turn-preserved : goal.loop-turn-preserved
 loop-turn-preserved c =
     let a = c.args in
     let l = c.loop-turn in
-    let v = c.step-progress in
+    let v = c.step in
     let says = subst
-    (StepSays a.states.now a.sequence.now a.labels.now a.marks.now a.n a.register.now a.root_end a.chains.now
-    a.words.now a.m l.progress l.out v.result v.new.out)
-    c.if-progress.false v.ensures in (
+    (λ r. StepSays a.states.now a.sequence.now a.labels.now a.marks.now a.n a.register.now a.root_end a.chains.now
+    a.words.now a.m l.progress l.out r v.new.out)
+    c.in-Some.is v.ensures in (
       v.auto.out ∙ l.invariant.0,
       omega (arith, says.1, l.invariant.1),
       l.invariant.2,
-      omega (arith, c.loop-turn-test.true),
       says.0,
-      λ raws f. says.2 raws a.out.now f l.invariant.0 (l.invariant.5 raws f),
+      λ raws f. says.2 raws a.out.now f l.invariant.0 (l.invariant.4 raws f),
     )
 
 pub shape_of-out-then-out-progress : goal.shape_of-out-then-out-progress
@@ -81,11 +66,10 @@ pub returns-then-out-progress : goal.returns-then-out-progress
 returns-then-out-progress c =
     let a = c.args in
     let l = c.loop-turn in
-    let test = c.loop-turn-test.false in
-    let rows = l.invariant.4 in
-    λ raws qs f q. written_short a.marks.now f q a.out.now l.progress l.out (l.invariant.5 raws f)
-    (omega (arith, test, l.invariant.1, l.invariant.2, l.invariant.3, rows.pages, rows.words))
-    (omega (arith, test, l.invariant.1, l.invariant.2, l.invariant.3, rows.pages, rows.words))
+    let rows = l.invariant.3 in
+    λ raws qs f q. written_short a.marks.now f q a.out.now l.progress l.out (l.invariant.4 raws f)
+    (omega (arith, c.loop-turn-test, l.invariant.1, l.invariant.2, rows.pages, rows.words))
+    (omega (arith, c.loop-turn-test, l.invariant.1, l.invariant.2, rows.pages, rows.words))
     (omega (arith, c.if-out-progress.true, l.invariant.0)) l.invariant.0
 
 pub shape_of-out : goal.shape_of-out
@@ -95,9 +79,8 @@ pub returns : goal.returns
 returns c =
     let a = c.args in
     let l = c.loop-turn in
-    let test = c.loop-turn-test.false in
-    let rows = l.invariant.4 in
-    λ raws qs f q. written_whole a.marks.now f q a.out.now l.progress l.out (l.invariant.5 raws f)
-    (omega (arith, test, l.invariant.1, l.invariant.2, l.invariant.3, rows.pages, rows.words))
-    (omega (arith, test, l.invariant.1, l.invariant.2, l.invariant.3, rows.pages, rows.words))
+    let rows = l.invariant.3 in
+    λ raws qs f q. written_whole a.marks.now f q a.out.now l.progress l.out (l.invariant.4 raws f)
+    (omega (arith, c.loop-turn-test, l.invariant.1, l.invariant.2, rows.pages, rows.words))
+    (omega (arith, c.loop-turn-test, l.invariant.1, l.invariant.2, rows.pages, rows.words))
     (omega (arith, c.if-out-progress.false, l.invariant.0))

@@ -1,4 +1,4 @@
-use Prim.Native.Nat.{◌+◌, ◌-◌, ◌≤◌}
+use Prim.Native.Nat.{◌+◌, ◌≤◌}
 use mathlib.Core.Path.{◌≡◌}
 use lib.ListN.{length}
 use Rattle.known.specs.Rows.{label_count}
@@ -8,8 +8,5 @@ use Rattle.known.proofs.add_chain.Given as goal
 
 abbrev pub invariant-loop-k : goal.invariant-loop-k
 invariant-loop-k l =
-    (l.k ≤ l.n) × (l.n ≡ label_count l.word) × (length l.heads ≡ length l.initial.heads) × (length l.words ≡ length l.initial.words) × (l.total ≤ l.count + l.k)
+    (l.n ≡ label_count l.word) × (length l.heads ≡ length l.initial.heads) × (length l.words ≡ length l.initial.words) × (l.total ≤ l.count + l.k)
     × Linked l.s l.heads l.words l.total × Adding l.s l.word l.initial.words l.count l.words l.total l.k
-
-abbrev pub decreases-loop-k : goal.decreases-loop-k
-decreases-loop-k l = l.n - l.k

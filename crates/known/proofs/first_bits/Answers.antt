@@ -2,14 +2,8 @@ use native.Mathlib.Omega.{arith}
 use Rattle.known.specs.Known.{first_bits}
 use Rattle.known.proofs.first_bits.Goals as goal
 
-pub overflow_cast-result : goal.overflow_cast-result
-overflow_cast-result c = omega (arith, c.type_inv.digest 0)
-
 pub overflow_mul-result : goal.overflow_mul-result
 overflow_mul-result c = omega (arith, c.type_inv.digest 0)
-
-pub overflow_cast-result-2 : goal.overflow_cast-result-2
-overflow_cast-result-2 c = omega (arith, c.type_inv.digest 1)
 
 pub overflow_add-result : goal.overflow_add-result
 overflow_add-result c = omega (arith, c.type_inv.digest 0, c.type_inv.digest 1)

@@ -1,4 +1,3 @@
-use Prim.Native.Nat.{◌-◌}
 use Rattle.known.proofs.LinkTable.{Seeking}
 use Rattle.known.proofs.in_table.Given as goal
 

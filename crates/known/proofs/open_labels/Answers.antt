@@ -1,5 +1,5 @@
 use borrow.Author.Rules.{rules}
-use Prim.Native.Nat.{◌-◌, ◌<◌}
+use Prim.Native.Nat.{◌<◌}
 use native.Mathlib.Omega.{arith}
 use Rattle.known.specs.Rows.{label_count}
 use Rattle.known.proofs.Labels.{label_above, label_within}
@@ -9,7 +9,7 @@ use Rattle.known.proofs.open_labels.Goals as goal
 pub loop-k-init : goal.loop-k-init
 loop-k-init c =
     let a = c.args in
-    (search rules, none_tried a.s.now a.heads.now a.words.now a.root.now a.u.now a.word a.most)
+    none_tried a.s.now a.heads.now a.words.now a.root.now a.u.now a.word a.most
 
 pub label_place-at-requires : goal.label_place-at-requires
 label_place-at-requires c =
@@ -46,16 +46,16 @@ pub returns-then-is_known : goal.returns-then-is_known
 returns-then-is_known c =
     let a = c.args in
     let l = c.loop-k in
-    (search rules, open_stops a.s.now a.heads.now a.words.now a.root.now a.u.now a.word a.most c.requires.3 l.k l.invariant.1 (omega arith) c.label_place-at.result c.label_place-at.ensures c.is_known.result c.is_known.ensures c.if-is_known.true)
+    (search rules, open_stops a.s.now a.heads.now a.words.now a.root.now a.u.now a.word a.most c.requires.3 l.k l.invariant (omega arith) c.label_place-at.result c.label_place-at.ensures c.is_known.result c.is_known.ensures c.if-is_known.true)
 
 pub loop-k-preserved : goal.loop-k-preserved
 loop-k-preserved c =
     let a = c.args in
     let l = c.loop-k in
-    (search rules, open_more a.s.now a.heads.now a.words.now a.root.now a.u.now a.word a.most c.requires.3 l.k l.invariant.1 (omega arith) c.label_place-at.result c.label_place-at.ensures c.is_known.result c.is_known.ensures c.if-is_known.false)
+    open_more a.s.now a.heads.now a.words.now a.root.now a.u.now a.word a.most c.requires.3 l.k l.invariant (omega arith) c.label_place-at.result c.label_place-at.ensures c.is_known.result c.is_known.ensures c.if-is_known.false
 
 pub returns : goal.returns
 returns c =
     let a = c.args in
     let l = c.loop-k in
-    (search rules, open_all a.s.now a.heads.now a.words.now a.root.now a.u.now a.word a.most c.requires.3 l.k l.invariant.1 (omega arith) (omega arith))
+    (search rules, open_all a.s.now a.heads.now a.words.now a.root.now a.u.now a.word a.most c.requires.3 l.k l.invariant (omega arith))

@@ -4,12 +4,12 @@ use Rattle.collections.proofs.Promises.{screen_short}
 use Rattle.answer.specs.Answer.{encoded_of_two}
 use Rattle.mijdegen.proofs.mijdegen_screen.Goals as goal
 
-pub encode_two-requires : goal.encode_two-requires
-encode_two-requires c = subst FirstFits (sym c.screen.ensures.answer) (screen_short _ _ _ _)
+pub encode-requires : goal.encode-requires
+encode-requires c = subst FirstFits (sym c.screen.ensures.answer) (screen_short _ _ _ _)
 
 pub returns : goal.returns
 returns c =
     record {
-      answer = c.encode_two.ensures ∙ ap encoded_of_two c.screen.ensures.answer;
+      answer = c.encode.ensures ∙ ap encoded_of_two c.screen.ensures.answer;
       output = c.screen.ensures.output;
     }

@@ -1,7 +1,6 @@
 use borrow.Author.Rules.{rules}
-use mathlib.Core.Path.{sym, ◌∙◌}
+use mathlib.Core.Path.{sym}
 use lib.Seq.{length-take-le}
-use Rattle.key.proofs.SlashLaws.{slash_done, slash_refused}
 use Rattle.page_keys.proofs.Tests.{key_too_long, key_tested}
 use Rattle.page_keys.proofs.key_is_lawful.Goals as goal
 
@@ -11,8 +10,5 @@ returns-then-buffer-size c = search (rules, key_too_long)
 pub slice_bounds-slash-end : goal.slice_bounds-slash-end
 slice_bounds-slash-end c = sym (length-take-le _ _ (search rules))
 
-pub returns-in-Ok : goal.returns-in-Ok
-returns-in-Ok c = key_tested _ _ (search rules) _ (sym (slash_done _ _ (sym c.slash.ensures ∙ c.in-Ok.is)))
-
-pub returns-in-Err : goal.returns-in-Err
-returns-in-Err c = key_tested _ _ (search rules) _ (sym (slash_refused _ _ (sym c.slash.ensures ∙ c.in-Err.is)).0)
+pub returns : goal.returns
+returns c = search (rules, key_tested)

@@ -1,7 +1,7 @@
 use borrow.Author.Rules.{rules}
 use mathlib.Core.Path.{sym}
 use lib.Seq.{length-take-le}
-use Rattle.page_keys.proofs.Tests.{no_last, no_key, key_greater, key_equal, key_less}
+use Rattle.page_keys.proofs.Tests.{no_last, no_key, key_compared}
 use Rattle.page_keys.proofs.key_rises.Goals as goal
 
 pub returns-then-last-last_size : goal.returns-then-last-last_size
@@ -16,11 +16,5 @@ slice_bounds-compare-end c = sym (length-take-le _ _ (search rules))
 pub slice_bounds-compare-end-2 : goal.slice_bounds-compare-end-2
 slice_bounds-compare-end-2 c = sym (length-take-le _ _ (search rules))
 
-pub returns-in-Less : goal.returns-in-Less
-returns-in-Less c = search (rules, key_greater)
-
-pub returns-in-Equal : goal.returns-in-Equal
-returns-in-Equal c = search (rules, key_equal)
-
-pub returns-in-Greater : goal.returns-in-Greater
-returns-in-Greater c = search (rules, key_less)
+pub returns : goal.returns
+returns c = search (rules, key_compared)

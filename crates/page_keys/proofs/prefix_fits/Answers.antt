@@ -1,5 +1,5 @@
 use mathlib.Core.Bool.{false≢true}
-use Rattle.page_keys.proofs.Prefixes.{key_shorter, key_ends, no_room, nothing_follows, byte_differs, byte_agrees}
+use Rattle.page_keys.proofs.Prefixes.{key_shorter, key_ends, no_room, nothing_follows, byte_compared}
 use borrow.Author.Rules.{rules}
 use Rattle.page_keys.proofs.prefix_fits.Goals as goal
 
@@ -31,16 +31,9 @@ returns-then-n-eq0 c =
       short = λ e. search rules;
     }
 
-pub returns-then-buffer-shares-2 : goal.returns-then-buffer-shares-2
-returns-then-buffer-shares-2 c =
-    record {
-      says = search (rules, byte_agrees);
-      short = λ e. absurd (false≢true e);
-    }
-
 pub returns : goal.returns
 returns c =
     record {
-      says = search (rules, byte_differs);
+      says = search (rules, byte_compared);
       short = λ e. search rules;
     }

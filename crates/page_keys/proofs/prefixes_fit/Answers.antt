@@ -1,5 +1,4 @@
 use borrow.Author.Rules.{rules}
-use Prim.Native.Nat.{◌-◌}
 use native.Mathlib.Omega.{arith}
 use Rattle.bytestring.proofs.Tools.{bytes_of_lem}
 use Rattle.page_keys.proofs.Entries.{entry_inside, shares_small, size_small}
@@ -9,7 +8,7 @@ use Rattle.page_keys.proofs.prefixes_fit.Goals as goal
 pub loop-i-init : goal.loop-i-init
 loop-i-init c =
     let bytes = bytes_of_lem c.args.s.now (λ i h. omega (arith, c.type_inv.s i)) in
-    (search rules, search rules, search rules, bytes, search (rules, row_none))
+    (search rules, search rules, bytes, search (rules, row_none))
 
 pub prefix_fits-requires : goal.prefix_fits-requires
 prefix_fits-requires c = search (rules, entry_inside)
@@ -20,11 +19,11 @@ returns-then-not-prefix_fits c = search (rules, row_wrong)
 pub extend_key-size-requires : goal.extend_key-size-requires
 extend_key-size-requires c = (search (rules, entry_inside), search (rules, shares_small), search (rules, size_small))
 
-pub returns-in-Err : goal.returns-in-Err
-returns-in-Err c = search (rules, row_stops)
+pub returns-in_default : goal.returns-in_default
+returns-in_default c = search (rules, row_stops)
 
 pub loop-i-preserved : goal.loop-i-preserved
-loop-i-preserved c = (search rules, search rules, search rules, search rules, search (rules, row_more))
+loop-i-preserved c = (search rules, search rules, search rules, search (rules, row_more))
 
 pub returns : goal.returns
 returns c = search (rules, row_all)

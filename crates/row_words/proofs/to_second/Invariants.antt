@@ -1,4 +1,4 @@
-use Prim.Native.Nat.{◌-◌, ◌≤◌}
+use Prim.Native.Nat.{◌≤◌}
 use mathlib.Core.Path.{◌≡◌}
 use lib.ListN.{length}
 use Rattle.row_words.specs.RowWords.{BelowSecond}
@@ -6,7 +6,4 @@ use Rattle.row_words.proofs.WordLaws.{ChangedSoFar}
 use Rattle.row_words.proofs.to_second.Given as goal
 
 abbrev pub invariant-loop-i : goal.invariant-loop-i
-invariant-loop-i l = (l.i ≤ l.n) × (l.n ≤ length l.initial.index) × BelowSecond l.initial.index l.n × (length l.index ≡ length l.initial.index) × ChangedSoFar l.initial.index l.index l.i
-
-abbrev pub decreases-loop-i : goal.decreases-loop-i
-decreases-loop-i l = l.n - l.i
+invariant-loop-i l = (l.n ≤ length l.initial.index) × BelowSecond l.initial.index l.n × (length l.index ≡ length l.initial.index) × ChangedSoFar l.initial.index l.index l.i

@@ -2,8 +2,8 @@ use borrow.Author.Rules.{rules}
 use Rattle.states_reader.proofs.Verdicts.{index_accepted, index_refused}
 use Rattle.states_reader.proofs.index_states.Goals as goal
 
-pub returns-in-Ok : goal.returns-in-Ok
-returns-in-Ok c = search (rules, index_accepted)
+pub returns : goal.returns
+returns c = search (rules, index_accepted, c.in_ok-count.was)
 
-pub returns-in-Err : goal.returns-in-Err
-returns-in-Err c = search (rules, index_refused)
+pub returns-in_err-count : goal.returns-in_err-count
+returns-in_err-count c = search (rules, index_refused, c.in_err-count.was)

@@ -84,7 +84,7 @@ judge_roots-requires c =
     let labels = c.file_links.new.words in
     let filed = filing_right a.states.now a.sequence.now words (a.m + a.count) a.pages.now a.n (raws_in a.sequence.now)
     c.file_links.result labels c.file_links.ensures (ap not c.if-not-file_links.false) in
-    rooted g.0 g.1 states sequence g.2 g.3 noted size room filed
+    (rooted g.0 g.1 states sequence g.2 g.3 noted size room filed, c.own_position-own.ensures.within)
 
 pub returns-then-not-judge_roots : goal.returns-then-not-judge_roots
 returns-then-not-judge_roots c =
@@ -127,5 +127,5 @@ returns c =
     let after = c.judge_roots.new.pages in
     let judged = judged_right a.states.now a.sequence.now labels roots a.count c.own_position-own.result a.n
     c.judge_roots.result after c.judge_roots.ensures (ap not c.if-not-judge_roots.false) in
-    hold_says g.0 g.1 states sequence g.2 g.3 noted size room filed a.key.now c.own_position-own.result c.own_position-own.ensures judged
+    hold_says g.0 g.1 states sequence g.2 g.3 noted size room filed a.key.now c.own_position-own.result c.own_position-own.ensures.says judged
     c.all_noted.result c.all_noted.ensures

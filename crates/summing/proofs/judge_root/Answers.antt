@@ -1,11 +1,16 @@
+use borrow.Author.Rules.{rules}
+use Prim.Native.Nat.{ℕ}
+use mathlib.Core.Path.{subst}
+use mathlib.Core.List.{List}
 use native.Mathlib.Omega.{arith}
+use Rattle.summing.specs.Summed.{RootSays}
 use mathlib.Core.Bool.{false≢true}
 use Prim.Native.Nat.{◌+◌, ◌-◌}
 use lib.ListN.{take, drop}
 use Rattle.bytestring.proofs.Tools.{bytes_of_lem}
 use Rattle.key.proofs.Laws.{layer_le}
 use Rattle.summing.proofs.Entries.{entry_located}
-use Rattle.summing.proofs.Roots.{root_underway, root_keeps, root_stops, root_no_entry, root_alone, root_reached, root_known, root_entry_there, root_long, root_tree}
+use Rattle.summing.proofs.Roots.{root_underway, root_keeps, kept_also, root_stops, root_no_entry, root_alone, root_reached, root_known, root_entry_there, root_long, root_tree}
 use Rattle.summing.proofs.judge_root.Goals as goal
 
 pub returns-then-p-ne0 : goal.returns-then-p-ne0
@@ -89,30 +94,33 @@ judge_tree-requires c =
     (bytes_of_lem a.sequence.now (λ i h. omega (arith, c.type_inv.sequence i))) pre.0.0 pre.0.1 pre.0.2 pre.3 pre.4 in
     (u, pre.1, omega (arith, c.layer_of-layer.ensures, layer_le (take (c.in-Ok-locate_entry.e.remainder + c.in-Ok-locate_entry.e.size - c.in-Ok-locate_entry.e.remainder) (drop c.in-Ok-locate_entry.e.remainder a.sequence.now))), pre.2)
 
-pub returns-else-size-gt-LONGEST_KEY : goal.returns-else-size-gt-LONGEST_KEY
-returns-else-size-gt-LONGEST_KEY c =
+pub returns : goal.returns
+returns c =
     let a = c.args in
     let pre = c.requires in
     let u = root_underway a.states.now a.sequence.now a.labels.now a.pages.now a.counts.now a.n a.keys.now a.tags.now a.last.now
     (bytes_of_lem a.sequence.now (λ i h. omega (arith, c.type_inv.sequence i))) pre.0.0 pre.0.1 pre.0.2 pre.3 pre.4 in
     let found = entry_located c.locate_entry.ensures c.in-Ok-locate_entry.is in
     let t = c.judge_tree in record {
-      says = root_tree u pre.1 pre.2 c.word_place-place.result c.word_place-place.ensures c.read_page.result c.read_page.ensures c.in-Ok.p c.in-Ok.is c.if-p-eq0.false c.in-Ok-locate_entry.e found c.layer_of-layer.result c.layer_of-layer.ensures t.result t.new.pages t.new.counts t.ensures.says;
-      keeps = λ raws w h. root_keeps a.states.now a.sequence.now a.labels.now a.pages.now a.counts.now a.n t.new.keys t.new.tags (t.ensures.keeps h) raws w;
+      says = subst (λ (x : List ℕ). RootSays a.states.now a.sequence.now a.labels.now a.pages.now a.counts.now a.n a.i a.mark t.result t.new.pages x) {x = t.new.written.counts.now} (search rules)
+          (root_tree u pre.1 pre.2 c.word_place-place.result c.word_place-place.ensures c.read_page.result c.read_page.ensures c.in-Ok.p c.in-Ok.is c.if-p-eq0.false c.in-Ok-locate_entry.e found c.layer_of-layer.result c.layer_of-layer.ensures t.result t.new.pages t.new.written.counts.now t.ensures.says);
+      keeps = λ raws w h.
+          kept_also {keys = t.new.written.keys.now} {tags = t.new.written.tags.now} (search rules) (search rules)
+          (root_keeps a.states.now a.sequence.now a.labels.now a.pages.now a.counts.now a.n t.new.written.keys.now t.new.written.tags.now (t.ensures.keeps h) raws w);
     }
 
-pub returns-in-Err-locate_entry : goal.returns-in-Err-locate_entry
-returns-in-Err-locate_entry c =
+pub returns-in_default-locate_entry : goal.returns-in_default-locate_entry
+returns-in_default-locate_entry c =
     let a = c.args in
     let pre = c.requires in
     let u = root_underway a.states.now a.sequence.now a.labels.now a.pages.now a.counts.now a.n a.keys.now a.tags.now a.last.now
     (bytes_of_lem a.sequence.now (λ i h. omega (arith, c.type_inv.sequence i))) pre.0.0 pre.0.1 pre.0.2 pre.3 pre.4 in
-    absurd (root_entry_there u pre.1 pre.2 c.word_place-place.result c.word_place-place.ensures c.read_page.result c.read_page.ensures c.in-Ok.p c.in-Ok.is c.if-p-eq0.false c.locate_entry.result c.in-Err-locate_entry.field-0 c.locate_entry.ensures c.in-Err-locate_entry.is)
+    absurd (root_entry_there u pre.1 pre.2 c.word_place-place.result c.word_place-place.ensures c.read_page.result c.read_page.ensures c.in-Ok.p c.in-Ok.is c.if-p-eq0.false c.locate_entry.result _ c.locate_entry.ensures c.in_default-locate_entry.is)
 
-pub returns-in-Err : goal.returns-in-Err
-returns-in-Err c =
+pub returns-in_default : goal.returns-in_default
+returns-in_default c =
     let a = c.args in
     let pre = c.requires in
     let u = root_underway a.states.now a.sequence.now a.labels.now a.pages.now a.counts.now a.n a.keys.now a.tags.now a.last.now
     (bytes_of_lem a.sequence.now (λ i h. omega (arith, c.type_inv.sequence i))) pre.0.0 pre.0.1 pre.0.2 pre.3 pre.4 in
-    absurd (root_stops u pre.1 pre.2 c.word_place-place.result c.word_place-place.ensures c.read_page.result c.read_page.ensures c.in-Err.field-0 c.in-Err.is)
+    absurd (root_stops u pre.1 pre.2 c.word_place-place.result c.word_place-place.ensures c.read_page.result c.read_page.ensures _ c.in_default.is)

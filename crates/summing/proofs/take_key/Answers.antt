@@ -11,7 +11,7 @@ pub returns-then-not-prefix_fits : goal.returns-then-not-prefix_fits
 returns-then-not-prefix_fits c =
     let a = c.args in
     let f = c.prefix_fits in
-    prefix_wrong a.buffer.now a.size a.sequence.now a.e a.last.now a.before a.layer c.requires f.result f.ensures.says f.ensures.short (ap not c.if-not-prefix_fits.true) _ _
+    prefix_wrong a.buffer.now a.size a.sequence.now a.e a.last.now a.before a.layer c.requires f.result f.ensures.says f.ensures.short (ap not c.if-not-prefix_fits.true)
 
 pub returns-then-not-key_holds : goal.returns-then-not-key_holds
 returns-then-not-key_holds c =
@@ -20,7 +20,7 @@ returns-then-not-key_holds c =
     let x = c.extend_key-new in
     let k = c.key_holds in
     key_wrong a.buffer.now a.size a.sequence.now a.e a.last.now a.before a.layer c.requires f.result f.ensures.says f.ensures.short (ap not c.if-not-prefix_fits.false)
-    x.new.buffer x.result x.ensures k.result k.ensures.says k.ensures.short (ap not c.if-not-key_holds.true) _
+    x.new.buffer x.result x.ensures k.result k.ensures.says k.ensures.short (ap not c.if-not-key_holds.true)
 
 pub slice_bounds-write_bytes-end : goal.slice_bounds-write_bytes-end
 slice_bounds-write_bytes-end c = omega (arith, c.key_holds.ensures.short (c.if-not-key_holds.false), c.extend_key-new.auto, c.requires.held)

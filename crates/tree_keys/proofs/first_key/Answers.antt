@@ -1,5 +1,4 @@
 use borrow.Author.Rules.{rules}
-use Prim.Native.Nat.{◌-◌}
 use native.Mathlib.Omega.{arith}
 use Rattle.bytestring.proofs.Tools.{bytes_of_lem}
 use Rattle.tree_keys.proofs.FirstWays.{left_by_reading, first_begins, first_too_deep, first_own, left_leads, first_goes_on}
@@ -8,10 +7,10 @@ use Rattle.tree_keys.proofs.first_key.Goals as goal
 pub loop-steps-init : goal.loop-steps-init
 loop-steps-init c =
     let slice = bytes_of_lem c.args.sequence.now (λ i h. omega (arith, c.type_inv.sequence i)) in
-    (search rules, search rules, slice, first_begins _ _ _ _ _ _ slice c.requires.1)
+    (search rules, slice, first_begins _ _ _ _ _ _ slice c.requires.1)
 
-pub page_place-at-requires : goal.page_place-at-requires
-page_place-at-requires c = omega (arith, c.requires.0.1.page_room, c.loop-steps.invariant.1)
+pub bounds-pages-c : goal.bounds-pages-c
+bounds-pages-c c = omega (arith, c.requires.0.1.page_room, c.loop-steps.invariant.0)
 
 pub returns-then-left-eq0 : goal.returns-then-left-eq0
 returns-then-left-eq0 c = search (rules, first_own, left_by_reading)
@@ -20,7 +19,7 @@ pub linked_page-c-requires : goal.linked_page-c-requires
 linked_page-c-requires c = search (rules, left_leads, left_by_reading)
 
 pub loop-steps-preserved : goal.loop-steps-preserved
-loop-steps-preserved c = (search rules, search rules, search rules, search (rules, first_goes_on, left_by_reading))
+loop-steps-preserved c = (search rules, search rules, search (rules, first_goes_on, left_by_reading))
 
 pub returns : goal.returns
 returns c = search (rules, first_too_deep)

@@ -1,11 +1,7 @@
-use Prim.Native.Nat.{◌-◌, ◌≤◌, ◌<◌}
+use Prim.Native.Nat.{◌<◌}
 use Rattle.bytestring.specs.Bytes.{Bytes}
-use Rattle.limits.specs.Limits.{deepest}
 use Rattle.tree_keys.proofs.FirstWays.{FirstSoFar}
 use Rattle.tree_keys.proofs.first_key.Given as goal
 
 abbrev pub invariant-loop-steps : goal.invariant-loop-steps
-invariant-loop-steps l = (l.steps ≤ deepest) × (l.c < l.n) × Bytes l.sequence × FirstSoFar l.states l.sequence l.labels l.pages l.n l.i l.c l.steps
-
-abbrev pub decreases-loop-steps : goal.decreases-loop-steps
-decreases-loop-steps l = deepest - l.steps
+invariant-loop-steps l = (l.c < l.n) × Bytes l.sequence × FirstSoFar l.states l.sequence l.labels l.pages l.n l.i l.c l.steps

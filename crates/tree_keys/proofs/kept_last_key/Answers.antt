@@ -4,21 +4,22 @@ use Rattle.tree_keys.proofs.LastWays.{last_shared}
 use Rattle.tree_keys.proofs.Keeping.{few_filed, kept_short, kept_says, key_more}
 use Rattle.tree_keys.proofs.kept_last_key.Goals as goal
 
-pub find_tag-k-requires : goal.find_tag-k-requires
-find_tag-k-requires c = omega (arith, few_filed c.requires.0.1, c.long_page-c.ensures.number)
+pub find_tag-requires : goal.find_tag-requires
+find_tag-requires c = omega (arith, few_filed c.requires.0.1, c.long_page-c.ensures.number)
 
 pub take_kept-requires : goal.take_kept-requires
 take_kept-requires c =
     let kept = c.requires.0.2 in
-    (kept.room, c.if-k-tags.true, kept.size _ c.if-k-tags.true, search rules)
+    let found = c.in-Some.ensures in
+    (kept.room, found.within, kept.size _ found.within, search rules)
 
-pub returns-then-k-tags : goal.returns-then-k-tags
-returns-then-k-tags c =
+pub returns-in-Some : goal.returns-in-Some
+returns-in-Some c =
     let pre = c.requires in
     let way = c.long_page-c in
     let copy = c.take_kept in
-    let short = kept_short pre.0.1 pre.0.2 _ _ c.find_tag-k.ensures c.if-k-tags.true in
-    let says = kept_says pre.0.1 pre.0.2 _ _ c.find_tag-k.ensures c.if-k-tags.true _ _ copy.ensures.size copy.ensures.key (search rules) in record {
+    let short = kept_short pre.0.1 pre.0.2 _ _ c.in-Some.ensures in
+    let says = kept_says pre.0.1 pre.0.2 _ _ c.in-Some.ensures _ _ copy.ensures.size copy.ensures.key (search rules) in record {
       short = omega (arith, short, copy.ensures.size);
       says = last_shared _ _ _ _ _ _ _ _ _ way.ensures.same says;
       keeps = λ raws f kept. kept;

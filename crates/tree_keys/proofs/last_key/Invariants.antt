@@ -1,14 +1,11 @@
-use Prim.Native.Nat.{◌-◌, ◌≤◌, ◌<◌}
+use Prim.Native.Nat.{◌<◌}
 use mathlib.Core.Path.{◌≡◌}
 use lib.ListN.{length}
 use Rattle.bytestring.specs.Bytes.{Bytes}
-use Rattle.limits.specs.Limits.{deepest, longest_key}
+use Rattle.limits.specs.Limits.{longest_key}
 use Rattle.tree_keys.proofs.LastWays.{LastSoFar}
 use Rattle.tree_keys.proofs.last_key.Given as goal
 
 abbrev pub invariant-loop-steps : goal.invariant-loop-steps
 invariant-loop-steps l =
-    (l.steps ≤ deepest) × (l.c < l.n) × (length l.last ≡ longest_key) × (length l.last ≡ length l.initial.last) × Bytes l.sequence × LastSoFar l.states l.sequence l.labels l.pages l.n l.i l.c l.steps
-
-abbrev pub decreases-loop-steps : goal.decreases-loop-steps
-decreases-loop-steps l = deepest - l.steps
+    (l.c < l.n) × (length l.last ≡ longest_key) × (length l.last ≡ length l.initial.last) × Bytes l.sequence × LastSoFar l.states l.sequence l.labels l.pages l.n l.i l.c l.steps

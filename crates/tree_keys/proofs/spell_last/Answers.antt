@@ -1,5 +1,4 @@
 use borrow.Author.Rules.{rules}
-use Prim.Native.Nat.{◌-◌}
 use native.Mathlib.Omega.{arith}
 use Rattle.bytestring.proofs.Tools.{bytes_of_lem}
 use Rattle.tree_keys.proofs.Lasts.{spelling_begins, spelling_ends, spelling_stops, spelling_goes_on, entry_link_within, remainder_within, few_shared, few_left}
@@ -8,13 +7,13 @@ use Rattle.tree_keys.proofs.spell_last.Goals as goal
 pub loop-j-init : goal.loop-j-init
 loop-j-init c =
     let slice = bytes_of_lem c.args.sequence.now (λ i h. omega (arith, c.type_inv.sequence i)) in
-    (search rules, c.requires.1, search rules, c.requires.0, slice, search (rules, spelling_begins))
+    (c.requires.1, search rules, c.requires.0, slice, search (rules, spelling_begins))
 
 pub extend_key-size-requires : goal.extend_key-size-requires
 extend_key-size-requires c = (search (rules, remainder_within), search (rules, few_shared), search (rules, few_left))
 
-pub returns-in-Err : goal.returns-in-Err
-returns-in-Err c =
+pub returns-in_default : goal.returns-in_default
+returns-in_default c =
     record {
       within = search rules;
       says = search (rules, spelling_stops);
@@ -22,7 +21,7 @@ returns-in-Err c =
 
 pub loop-j-preserved : goal.loop-j-preserved
 loop-j-preserved c =
-    (search rules, search rules, search rules, search (rules, entry_link_within), search rules, search (rules, spelling_goes_on))
+    (search rules, search rules, search (rules, entry_link_within), search rules, search (rules, spelling_goes_on))
 
 pub returns : goal.returns
 returns c =

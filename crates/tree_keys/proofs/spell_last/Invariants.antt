@@ -1,4 +1,3 @@
-use Prim.Native.Nat.{◌-◌, ◌≤◌}
 use mathlib.Core.Path.{◌≡◌}
 use lib.ListN.{length}
 use Rattle.bytestring.specs.Bytes.{Bytes}
@@ -9,8 +8,5 @@ use Rattle.tree_keys.proofs.spell_last.Given as goal
 
 abbrev pub invariant-loop-j : goal.invariant-loop-j
 invariant-loop-j l =
-    (l.j ≤ l.count) × (length l.last ≡ longest_key) × (length l.last ≡ length l.initial.last) × LinkWithin l.sequence l.link × Bytes l.sequence
+    (length l.last ≡ longest_key) × (length l.last ≡ length l.initial.last) × LinkWithin l.sequence l.link × Bytes l.sequence
     × SpeltSoFar l.sequence l.first l.count l.left l.j l.at l.last l.size l.link
-
-abbrev pub decreases-loop-j : goal.decreases-loop-j
-decreases-loop-j l = l.count - l.j

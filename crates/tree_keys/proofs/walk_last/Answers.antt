@@ -14,18 +14,18 @@ returns-then-count-gt0 c =
       says = search (rules, entries_end, slice);
     }
 
-pub spell_last-requires-in-Ok : goal.spell_last-requires-in-Ok
-spell_last-requires-in-Ok c = ((c.read_left-left.ensures 0).within, search rules)
+pub spell_last-requires-2 : goal.spell_last-requires-2
+spell_last-requires-2 c = ((c.read_left-left.ensures 0).within, search rules)
 
-pub returns-else-count-gt0 : goal.returns-else-count-gt0
-returns-else-count-gt0 c =
+pub returns : goal.returns
+returns c =
     let slice = bytes_of_lem c.args.sequence.now (λ i h. omega (arith, c.type_inv.sequence i)) in record {
       within = search rules;
       says = search (rules, page_end_lem, slice);
     }
 
-pub returns-in-Err : goal.returns-in-Err
-returns-in-Err c =
+pub returns-in_default : goal.returns-in_default
+returns-in_default c =
     record {
       within = λ z. absurd (omega arith);
       says = search (rules, page_end_lost);

@@ -1,5 +1,7 @@
-use Prim.Native.Nat.{◌-◌}
-use mathlib.Core.Path.{refl, sym, ◌∙◌}
+use mathlib.Core.Path.{refl, sym, subst, ◌∙◌}
+use borrow.Author.Rules.{rules}
+use Rattle.std.specs.Prelude.{None}
+use Rattle.choice.specs.Choice.{WithinSays, combined_of}
 use native.Mathlib.Omega.{arith}
 use Rattle.row.proofs.Memories.{fresh_zeros}
 use Rattle.choice.proofs.Turns.{keys_size, others_size, begins, ends_first, ends_second, readable, too_many, turn, turn_less}
@@ -55,15 +57,16 @@ slice_bounds-candidate_at-end-in-loop-a c = others_size c.loop-a.invariant.1
 pub candidate_at-next-requires : goal.candidate_at-next-requires
 candidate_at-next-requires c = readable c.loop-a.invariant.1 c.loop-a-test.true c.if-m-b.false
 
-pub keep-k-requires : goal.keep-k-requires
-keep-k-requires c = let f = c.loop-a.invariant.1 in (f.few, f.room, f.small)
+pub keep-requires : goal.keep-requires
+keep-requires c = let f = c.loop-a.invariant.1 in (f.few, f.room, f.small)
 
-pub shape_of-row-then-limit-k : goal.shape_of-row-then-limit-k
-shape_of-row-then-limit-k c = c.keep-k.auto.row ∙ c.loop-a.invariant.0
+pub shape_of-row-in_err-k : goal.shape_of-row-in_err-k
+shape_of-row-in_err-k c = c.keep.auto.row ∙ c.loop-a.invariant.0
 
-pub returns-then-limit-k : goal.returns-then-limit-k
-returns-then-limit-k c =
-    too_many c.loop-a.invariant.1 c.loop-a-test.true c.if-m-b.false _ c.candidate_at-next.ensures c.keep-k.ensures c.if-limit-k.true
+pub returns-in_err-k : goal.returns-in_err-k
+returns-in_err-k c =
+    subst (λ r. WithinSays c.args.limit c.args.s.now c.args.u.now (combined_of c.args.policy c.args.s.now c.args.u.now c.args.first.now c.args.n c.args.second.now c.args.m) r c.keep.new.row) {x = None} {y = c.from_residual.result} (search rules)
+    (too_many c.loop-a.invariant.1 c.loop-a-test.true c.if-m-b.false _ c.candidate_at-next.ensures c.keep.result c.keep.new.row c.keep.ensures c.in_err-k.was)
 
 pub slice_bounds-advance-end : goal.slice_bounds-advance-end
 slice_bounds-advance-end c = keys_size c.loop-a.invariant.1
@@ -92,7 +95,7 @@ loop-a-preserved c =
     let l = c.loop-a in
     let v = c.advance-a in
     let w = c.advance-b in
-    (c.keep-k.auto.row ∙ l.invariant.0, turn l.invariant.1 c.loop-a-test.true c.if-m-b.false _ c.candidate_at-next.ensures c.keep-k.ensures c.if-limit-k.false c.keep-k.auto.row v.ensures (v.auto.notes ∙ l.invariant.1.slots) w.ensures (w.auto.notes ∙ l.invariant.1.others_slots))
+    (c.keep.auto.row ∙ l.invariant.0, turn l.invariant.1 c.loop-a-test.true c.if-m-b.false _ c.candidate_at-next.ensures c.keep.result c.keep.new.row c.in_ok-k.k c.keep.ensures c.in_ok-k.was c.keep.auto.row v.ensures (v.auto.notes ∙ l.invariant.1.slots) w.ensures (w.auto.notes ∙ l.invariant.1.others_slots))
 
 pub append-requires-2 : goal.append-requires-2
 append-requires-2 c = let f = c.loop-a.invariant.1 in (f.few, f.room, f.beside, f.other.room)

@@ -1,3 +1,4 @@
+use borrow.Author.Rules.{rules}
 use native.Mathlib.Omega.{arith}
 use Rattle.digests.proofs.Labels.{row_labelled}
 use Rattle.reading.proofs.Verdicts.{accepting}
@@ -24,11 +25,21 @@ leave_held-count-requires c =
     let opening = c.open_pages-opening in
     may_leave a b opening.result _ opening.ensures (omega (arith, c.requires.4, opening.auto.row))
 
-pub write_table-answer-requires : goal.write_table-answer-requires
-write_table-answer-requires c = (c.leave_held-count.ensures.whole, row_labelled c.requires.2, row_labelled c.requires.3)
+pub write_table-requires : goal.write_table-requires
+write_table-requires c = (c.leave_held-count.ensures.whole, row_labelled c.requires.2, row_labelled c.requires.3)
+
+pub returns-in_err-len : goal.returns-in_err-len
+returns-in_err-len c =
+    let a = accepting (λ i h. omega (arith, c.type_inv.first i)) c.requires.0 in
+    let b = accepting (λ i h. omega (arith, c.type_inv.second i)) c.requires.1 in
+    let opening = c.open_pages-opening in
+    let it = difference_says a b opening.result _ opening.ensures (omega (arith, c.requires.4, opening.auto.row)) _ _ c.leave_held-count.ensures _ (c.write_table.ensures.answer, c.write_table.ensures.output) (rw c.in_err-len.was (search rules)) in
+    record { answer = it.0; output = it.1 }
 
 pub returns : goal.returns
 returns c =
     let a = accepting (λ i h. omega (arith, c.type_inv.first i)) c.requires.0 in
     let b = accepting (λ i h. omega (arith, c.type_inv.second i)) c.requires.1 in
-    let opening = c.open_pages-opening in let it = difference_says a b opening.result _ opening.ensures (omega (arith, c.requires.4, opening.auto.row)) _ _ c.leave_held-count.ensures _ (c.write_table-answer.ensures.answer, c.write_table-answer.ensures.output) c.with_second.ensures in record { answer = it.0; output = it.1 }
+    let opening = c.open_pages-opening in
+    let it = difference_says a b opening.result _ opening.ensures (omega (arith, c.requires.4, opening.auto.row)) _ _ c.leave_held-count.ensures _ (c.write_table.ensures.answer, c.write_table.ensures.output) (rw c.in_ok-len.was) in
+    record { answer = it.0; output = it.1 }

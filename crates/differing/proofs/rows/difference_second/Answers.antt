@@ -5,4 +5,4 @@ use Rattle.differing.proofs.rows.difference_second.Goals as goal
 
 pub returns-in-Err : goal.returns-in-Err
 returns-in-Err c =
-    let it = counted_refused _ _ _ (second_refused _ _ _ _ c.requires.0.judged (judged_refused _ _ _ _ c.judge.ensures c.in-Err.is)) (c.refuse_two.ensures.answer, c.refuse_two.ensures.output) in record { answer = it.0; output = it.1 }
+    let it = counted_refused _ _ _ (second_refused _ _ _ _ c.requires.0.judged (judged_refused _ _ _ _ c.judge.ensures c.in-Err.is)) (c.refuse.ensures.answer, c.refuse.ensures.output) in record { answer = it.0; output = it.1 }

@@ -1,12 +1,12 @@
-use Prim.Native.Nat.{◌+◌, ◌-◌, ◌<◌}
-use mathlib.Core.Path.{sym, subst}
+use Prim.Native.Nat.{◌+◌, ◌<◌}
+use mathlib.Core.Path.{refl, subst}
 use native.Mathlib.Omega.{arith}
 use lib.ListN.{length}
 use lib.Dec.{eqb}
 use borrow.Author.Rules.{rules}
-use Rattle.std.specs.Prelude.{Err}
+use Rattle.std.specs.Prelude.{Ok, Err}
 use Rattle.index.specs.Walk.{EntriesSay, PageSays}
-use Rattle.index.proofs.EntrySteps.{located_is, page_is, says_is, onward_start, onward_end, onward_there, onward_record, onward_none, onward_page, onward_stopped}
+use Rattle.index.proofs.EntrySteps.{located_is, page_is, entries_are, onward_start, onward_end, onward_there, onward_record, onward_none, onward_page, onward_stopped}
 use Rattle.index.proofs.PageSteps.{too_deep, deep_end, page_stops, page_none, page_left, left_stopped, page_bare, page_on, page_far, entries_counted, least_of}
 use Rattle.index.proofs.walk.+walk_entries_walk_page.Goals as goal
 
@@ -161,8 +161,8 @@ walk_page-returns-then-n-eq0 t c =
     let w = c.walk_page in
     page_on a.s.now a.index.now a.row.now a.last.now a.level a.link a.above a.st cur p pre.1 low here o c.if-n-eq0.true c.if-left-eq0.false c.chain_link-to.result c.chain_above-pages.result c.chain_link-to.ensures c.chain_above-pages.ensures w.result w.new.index w.new.row w.new.last w.ensures
 
-pub walk_page-walk_entries-walked-requires : goal.walk_page-walk_entries-walked-requires
-walk_page-walk_entries-walked-requires t c =
+pub walk_page-walk_entries-requires : goal.walk_page-walk_entries-requires
+walk_page-walk_entries-requires t c =
     let a = c.args in
     let pre = c.requires in
     let low : a.level < 129 = omega (arith, c.if-level-ge-DEEPEST) in
@@ -195,13 +195,15 @@ walk_page-leave-requires t c =
     let o = c.take_page-cur.ensures in
     let cur = c.take_page-cur.result in
     let n = c.enter-entered in
-    let w = c.walk_entries-walked in (
+    let w = c.walk_entries in
+    let counted = entries_counted a.s.now a.index.now a.row.now a.last.now a.level a.st.next p.first p.count n.result w.new.index w.new.row w.new.last w.result here.row.entries p.past cur.chains cur.count here.row.reads (omega (arith, n.ensures)) (omega (arith, n.ensures)) w.ensures c.in_ok-walked.walked c.in_ok-walked.was in (
       omega (arith, pre),
       omega (arith, pre),
       omega (arith, pre, low),
       omega (arith, here.whole.within, pre),
       omega (arith, o.chains, pre),
-      entries_counted a.s.now a.index.now a.row.now a.last.now a.level a.st.next p.first p.count n.result w.new.index w.new.row w.new.last w.result here.row.entries p.past cur.chains cur.count here.row.reads (omega (arith, n.ensures)) (omega (arith, n.ensures)) w.ensures,
+      counted.0,
+      counted.1,
     )
 
 pub walk_page-returns-then-left-eq0-2 : goal.walk_page-returns-then-left-eq0-2
@@ -214,10 +216,24 @@ walk_page-returns-then-left-eq0-2 t c =
     let o = c.take_page-cur.ensures in
     let cur = c.take_page-cur.result in
     let n = c.enter-entered in
-    let w = c.walk_entries-walked in
-    let z = c.leave in
-    says_is a.s.now a.index.now a.row.now a.last.now a.level a.link a.above a.st w.new.index z.new.row w.new.last
-    (page_none a.s.now a.index.now a.row.now a.last.now a.level a.link a.above a.st cur p pre.1 low here o n.result n.ensures c.if-n-eq0.false c.if-left-eq0-2.true w.result w.new.index w.new.row w.new.last z.new.row w.ensures z.ensures.noted) (sym z.ensures.same)
+    let w = c.walk_entries in
+    page_none a.s.now a.index.now a.row.now a.last.now a.level a.link a.above a.st cur p pre.1 low here o n.result n.ensures c.if-n-eq0.false c.if-left-eq0-2.true (Ok c.in_ok-walked.walked) w.new.index w.new.row w.new.last c.leave.new.row
+    (entries_are a.s.now a.index.now a.row.now a.last.now a.level a.st.next p.first p.count n.result w.new.index w.new.row w.new.last w.ensures c.in_ok-walked.was) c.leave.ensures
+
+pub walk_page-returns-in_err-walked : goal.walk_page-returns-in_err-walked
+walk_page-returns-in_err-walked t c =
+    let a = c.args in
+    let pre = c.requires in
+    let low : a.level < 129 = omega (arith, c.if-level-ge-DEEPEST) in
+    let p = c.in_ok-p.p in
+    let here = page_is a.s.now a.st.next c.read_page.ensures c.in_ok-p.was in
+    let o = c.take_page-cur.ensures in
+    let cur = c.take_page-cur.result in
+    let n = c.enter-entered in
+    let w = c.walk_entries in
+    subst (λ r. PageSays a.s.now a.index.now a.row.now a.last.now a.level a.link a.above a.st r w.new.index w.new.row w.new.last) {x = Err c.in_err-walked.field-0.0} {y = c.from_residual-in_err-walked.result} (search rules)
+    (page_none a.s.now a.index.now a.row.now a.last.now a.level a.link a.above a.st cur p pre.1 low here o n.result n.ensures c.if-n-eq0.false c.if-left-eq0-2.true (Err c.in_err-walked.field-0.0) w.new.index w.new.row w.new.last w.new.row
+    (entries_are a.s.now a.index.now a.row.now a.last.now a.level a.st.next p.first p.count n.result w.new.index w.new.row w.new.last w.ensures c.in_err-walked.was) refl)
 
 pub walk_page-walk_page-requires-2 : goal.walk_page-walk_page-requires-2
 walk_page-walk_page-requires-2 t c =
@@ -244,8 +260,8 @@ walk_page-walk_page-requires-2 t c =
       ),
     )
 
-pub walk_page-walk_entries-walked-requires-2 : goal.walk_page-walk_entries-walked-requires-2
-walk_page-walk_entries-walked-requires-2 t c =
+pub walk_page-walk_entries-requires-2 : goal.walk_page-walk_entries-requires-2
+walk_page-walk_entries-requires-2 t c =
     let a = c.args in
     let pre = c.requires in
     let low : a.level < 129 = omega (arith, c.if-level-ge-DEEPEST) in
@@ -282,13 +298,15 @@ walk_page-leave-requires-2 t c =
     let n = c.enter-entered in
     let w = c.walk_page-2 in
     let far = page_far a.s.now a.index.now a.row.now a.last.now (a.level + 1) p.left n.result w.new.index w.new.row w.new.last w.result c.in_ok-next.next c.if-left-eq0-2.false (omega (arith, here.left (omega (arith, c.if-left-eq0-2)), here.whole.within)) w.ensures c.in_ok-next.was in
-    let z = c.walk_entries-walked-2 in (
+    let z = c.walk_entries-2 in
+    let counted = entries_counted a.s.now w.new.index w.new.row w.new.last a.level a.st.next p.first p.count c.in_ok-next.next z.new.index z.new.row z.new.last z.result here.row.entries p.past cur.chains cur.count here.row.reads (omega (arith, far, n.ensures)) (omega (arith, far, n.ensures)) z.ensures c.in_ok-walked-2.walked c.in_ok-walked-2.was in (
       omega (arith, pre),
       omega (arith, pre),
       omega (arith, pre, low),
       omega (arith, here.whole.within, pre),
       omega (arith, o.chains, pre),
-      entries_counted a.s.now w.new.index w.new.row w.new.last a.level a.st.next p.first p.count c.in_ok-next.next z.new.index z.new.row z.new.last z.result here.row.entries p.past cur.chains cur.count here.row.reads (omega (arith, far, n.ensures)) (omega (arith, far, n.ensures)) z.ensures,
+      counted.0,
+      counted.1,
     )
 
 pub walk_page-returns : goal.walk_page-returns
@@ -302,10 +320,25 @@ walk_page-returns t c =
     let cur = c.take_page-cur.result in
     let n = c.enter-entered in
     let w = c.walk_page-2 in
-    let z = c.walk_entries-walked-2 in
-    let y = c.leave-2 in
-    says_is a.s.now a.index.now a.row.now a.last.now a.level a.link a.above a.st z.new.index y.new.row z.new.last
-    (page_left a.s.now a.index.now a.row.now a.last.now a.level a.link a.above a.st cur p pre.1 low here o n.result n.ensures c.if-n-eq0.false c.if-left-eq0-2.false w.new.index w.new.row w.new.last w.result c.in_ok-next.next w.ensures c.in_ok-next.was z.result z.new.index z.new.row z.new.last y.new.row z.ensures y.ensures.noted) (sym y.ensures.same)
+    let z = c.walk_entries-2 in
+    page_left a.s.now a.index.now a.row.now a.last.now a.level a.link a.above a.st cur p pre.1 low here o n.result n.ensures c.if-n-eq0.false c.if-left-eq0-2.false w.new.index w.new.row w.new.last w.result c.in_ok-next.next w.ensures c.in_ok-next.was (Ok c.in_ok-walked-2.walked) z.new.index z.new.row z.new.last c.leave-2.new.row
+    (entries_are a.s.now w.new.index w.new.row w.new.last a.level a.st.next p.first p.count c.in_ok-next.next z.new.index z.new.row z.new.last z.ensures c.in_ok-walked-2.was) c.leave-2.ensures
+
+pub walk_page-returns-in_err-walked-2 : goal.walk_page-returns-in_err-walked-2
+walk_page-returns-in_err-walked-2 t c =
+    let a = c.args in
+    let pre = c.requires in
+    let low : a.level < 129 = omega (arith, c.if-level-ge-DEEPEST) in
+    let p = c.in_ok-p.p in
+    let here = page_is a.s.now a.st.next c.read_page.ensures c.in_ok-p.was in
+    let o = c.take_page-cur.ensures in
+    let cur = c.take_page-cur.result in
+    let n = c.enter-entered in
+    let w = c.walk_page-2 in
+    let z = c.walk_entries-2 in
+    subst (λ r. PageSays a.s.now a.index.now a.row.now a.last.now a.level a.link a.above a.st r z.new.index z.new.row z.new.last) {x = Err c.in_err-walked-2.field-0.0} {y = c.from_residual-in_err-walked-2.result} (search rules)
+    (page_left a.s.now a.index.now a.row.now a.last.now a.level a.link a.above a.st cur p pre.1 low here o n.result n.ensures c.if-n-eq0.false c.if-left-eq0-2.false w.new.index w.new.row w.new.last w.result c.in_ok-next.next w.ensures c.in_ok-next.was (Err c.in_err-walked-2.field-0.0) z.new.index z.new.row z.new.last z.new.row
+    (entries_are a.s.now w.new.index w.new.row w.new.last a.level a.st.next p.first p.count c.in_ok-next.next z.new.index z.new.row z.new.last z.ensures c.in_err-walked-2.was) refl)
 
 pub walk_page-returns-in_err-next : goal.walk_page-returns-in_err-next
 walk_page-returns-in_err-next t c =

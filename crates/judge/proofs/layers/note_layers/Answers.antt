@@ -1,4 +1,3 @@
-use Prim.Native.Nat.{◌-◌}
 use mathlib.Core.Path.{refl}
 use native.Mathlib.Omega.{arith}
 use lib.ListN.{length-set}
@@ -8,7 +7,7 @@ use borrow.Author.Rules.{rules}
 use Rattle.judge.proofs.layers.note_layers.Goals as goal
 
 pub loop-i-init : goal.loop-i-init
-loop-i-init c = (search rules, search rules, search rules, search rules, search (rules, fresh_zeros), search (rules, layers_start))
+loop-i-init c = (search rules, search rules, search rules, search (rules, fresh_zeros), search (rules, layers_start))
 
 pub recall-found-requires : goal.recall-found-requires
 recall-found-requires c = (search rules, search rules, search (rules, next_places), search rules, search rules, search rules)
@@ -20,8 +19,8 @@ returns-then-sum-top c =
     let r = c.recall-found in
     let y = c.layer_of-layer in
     let d = c.layer_in in
-    let t = c.top_of-top in
-    layers_differ a.s.now a.index.now a.n l.top l.i l.index l.invariant.5 c.loop-i-test.true _ _ r.result r.ensures _ refl y.result y.ensures d.result d.ensures t.result t.ensures c.if-sum-top.true
+    let t = c.unwrap_or-top in
+    layers_differ a.s.now a.index.now a.n l.first l.i l.index l.invariant.4 c.loop-i-test.true _ _ r.result r.ensures _ refl y.result y.ensures d.result d.ensures t.result t.ensures c.if-sum-top.true
 
 pub with_layer-requires : goal.with_layer-requires
 with_layer-requires c = search (rules, layer_small)
@@ -33,9 +32,9 @@ loop-i-preserved c =
     let r = c.recall-found in
     let y = c.layer_of-layer in
     let d = c.layer_in in
-    let t = c.top_of-top in
+    let t = c.unwrap_or-top in
     let w = c.with_layer in
-    (omega (arith, c.loop-i-test), omega (arith, l.invariant, length-set l.index l.i w.result), omega (arith, r.auto, l.invariant), omega (arith, r.auto, l.invariant), r.ensures.remembers, layers_more a.s.now a.index.now a.n l.top l.i l.index l.invariant.5 c.loop-i-test.true _ _ r.result r.ensures _ refl y.result y.ensures d.result d.ensures t.result t.ensures (omega (arith, c.if-sum-top)) w.result w.ensures)
+    (omega (arith, l.invariant, length-set l.index l.i w.result), omega (arith, r.auto, l.invariant), omega (arith, r.auto, l.invariant), r.ensures.remembers, layers_more a.s.now a.index.now a.n l.first l.i l.index l.invariant.4 c.loop-i-test.true _ _ r.result r.ensures _ refl y.result y.ensures d.result d.ensures t.result t.ensures (omega (arith, c.if-sum-top)) w.result w.ensures)
 
 pub returns : goal.returns
 returns c = search (rules, layers_end)

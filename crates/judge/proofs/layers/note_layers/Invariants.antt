@@ -1,4 +1,3 @@
-use Prim.Native.Nat.{◌-◌, ◌≤◌}
 use mathlib.Core.Path.{◌≡◌}
 use lib.ListN.{length}
 use Rattle.row.specs.Memory.{Remembers}
@@ -7,7 +6,4 @@ use Rattle.judge.proofs.layers.note_layers.Given as goal
 
 abbrev pub invariant-loop-i : goal.invariant-loop-i
 invariant-loop-i l =
-    (l.i ≤ l.n) × (length l.index ≡ length l.initial.index) × (length l.keys ≡ 16384) × (length l.notes ≡ 64) × Remembers l.s l.s l.keys l.notes × LayersSoFar l.s l.initial.index l.n l.top l.i l.index
-
-abbrev pub decreases-loop-i : goal.decreases-loop-i
-decreases-loop-i l = l.n - l.i
+    (length l.index ≡ length l.initial.index) × (length l.keys ≡ 16384) × (length l.notes ≡ 64) × Remembers l.s l.s l.keys l.notes × LayersSoFar l.s l.initial.index l.n l.first l.i l.index

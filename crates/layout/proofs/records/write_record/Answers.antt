@@ -1,5 +1,3 @@
-use mathlib.Core.Path.{ap}
-use mathlib.Core.Bool.{not}
 use mathlib.Core.Path.{sym, ◌∙◌}
 use borrow.Author.Tests.{leb-true}
 use Rattle.layout.proofs.Holding.{held_length, key_room, entry_refused, entry_written}
@@ -22,7 +20,7 @@ returns-then-not-fits_after c =
     let a = c.args in
     let r = c.recall-found in
     let fits = c.fits_after in
-    entry_refused c.requires.1 r.ensures r.auto.notes a.linked a.link a.out.now fits.result fits.ensures (ap not c.if-not-fits_after.true)
+    entry_refused c.requires.1 r.ensures r.auto.notes a.link a.out.now fits.result (rw c.is_some.ensures at fits.ensures) c.if-not-fits_after.true
 
 pub slice_bounds-write_after-end-2 : goal.slice_bounds-write_after-end-2
 slice_bounds-write_after-end-2 c = held_length c.requires.1
@@ -31,7 +29,7 @@ pub write_after-len-requires : goal.write_after-len-requires
 write_after-len-requires c =
     let r = c.recall-found in
     let fits = c.fits_after in
-    (r.ensures.room, r.ensures.short, leb-true _ _ (sym fits.ensures ∙ c.if-not-fits_after.false))
+    (r.ensures.room, r.ensures.short, leb-true _ _ (sym (rw c.is_some.ensures at fits.ensures) ∙ c.if-not-fits_after.false))
 
 pub hold-requires : goal.hold-requires
 hold-requires c = (c.recall-found.ensures.room, key_room c.requires.1 c.recall-found.ensures c.recall-found.auto.notes)
@@ -49,5 +47,5 @@ returns c =
     let fits = c.fits_after in
     let value = c.value_of-value in
     let wrote = c.write_after-len in
-    entry_written c.requires.1 r.ensures r.auto.notes a.linked a.link a.out.now fits.result fits.ensures
-    value.result _ _ wrote.result (ap not c.if-not-fits_after.false) (value.ensures r.ensures.within ∙ r.ensures.val) wrote.ensures.output wrote.ensures.count c.hold.ensures
+    entry_written c.requires.1 r.ensures r.auto.notes a.link a.out.now fits.result (rw c.is_some.ensures at fits.ensures)
+    value.result _ _ wrote.result c.if-not-fits_after.false (value.ensures r.ensures.within ∙ r.ensures.val) wrote.ensures.output wrote.ensures.count c.hold.ensures

@@ -1,4 +1,3 @@
-use Prim.Native.Nat.{◌-◌}
 use native.Mathlib.Omega.{arith}
 use Rattle.layout.proofs.Measures.{counted_none, counted_more, counted_all}
 use Rattle.layout.proofs.runs.count_entries.Goals as goal

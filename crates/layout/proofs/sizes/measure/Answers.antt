@@ -9,7 +9,7 @@ returns-then-layer-eq0 c =
         run = c.run_end-first.ensures;
         counted = count.ensures.count c.args.s.now c.args.u.now;
         few = omega (arith, count.ensures.few, c.requires.range.few);
-        leaf = λ _. c.higher.ensures ∙ rw (c.page_start_length.ensures.0, c.page_end_length.ensures.0, c.has_page.ensures);
+        leaf = λ _. c.max.ensures ∙ rw (c.page_start_length.ensures.0, c.page_end_length.ensures.0, c.has_page.ensures);
         inner = λ some. absurd (some c.if-layer-eq0.true);
       };
       memory = c.requires.memory;

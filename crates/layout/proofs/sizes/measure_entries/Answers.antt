@@ -1,7 +1,6 @@
 use mathlib.Core.Path.{◌∙◌}
 use native.Mathlib.Omega.{arith}
 use Rattle.layout.proofs.Holding.{half_within, held_length, same_memory, key_room, key_held}
-use Prim.Native.Nat.{◌-◌}
 use Rattle.layout.proofs.Measures.{measured_none, measured_more, measured_fits, measured_all}
 use Rattle.layout.proofs.Bounds.{next_within, next_fits, word_fits, word_within, range_falls}
 use Rattle.layout.proofs.sizes.measure_entries.Goals as goal

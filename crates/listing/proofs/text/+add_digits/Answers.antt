@@ -1,5 +1,6 @@
+use borrow.Author.Rules.{rules}
 use native.Mathlib.Omega.{arith}
-use Rattle.listing.proofs.Adding.{adds_nothing, adds_then, adds_short, adds_same, no_digits, one_digit, more_digits}
+use Rattle.listing.proofs.Adding.{adds_nothing, adds_then, adds_short, adds_none, adds_same, no_digits, one_digit, more_digits}
 use Rattle.listing.proofs.text.+add_digits.Goals as goal
 
 pub returns-then-most-eq0 : goal.returns-then-most-eq0
@@ -12,12 +13,12 @@ returns-then-n-lt10 t c =
     let a = c.args in
     adds_same c.add_byte.ensures (one_digit a.most a.n (omega arith) (omega arith))
 
-pub returns-in-Some : goal.returns-in-Some
-returns-in-Some t c =
+pub returns-in_err-next : goal.returns-in_err-next
+returns-in_err-next t c =
     let a = c.args in
-    adds_same (adds_then c.add_digits.ensures c.in-Some.is c.add_byte-in-Some.ensures) (more_digits a.most a.n (omega arith) (omega arith))
+    adds_none (adds_same (adds_short c.add_digits.ensures c.in_err-next.was _) (more_digits a.most a.n (omega arith) (omega arith))) (search rules)
 
-pub returns-in-None : goal.returns-in-None
-returns-in-None t c =
+pub returns : goal.returns
+returns t c =
     let a = c.args in
-    adds_same (adds_short c.add_digits.ensures c.in-None.is _) (more_digits a.most a.n (omega arith) (omega arith))
+    adds_same (adds_then c.add_digits.ensures c.in_ok-next.was c.add_byte-2.ensures) (more_digits a.most a.n (omega arith) (omega arith))

@@ -1,16 +1,16 @@
 use borrow.Author.Rules.{rules}
 use mathlib.Core.Path.{refl}
 use native.Mathlib.Omega.{arith}
-use Rattle.listing.proofs.Adding.{no_room, adds_bytes}
+use Rattle.listing.proofs.Adding.{no_room, adds_none, adds_bytes}
 use Rattle.listing.proofs.text.add.Goals as goal
 
-pub returns-then-out-at : goal.returns-then-out-at
-returns-then-out-at c =
+pub returns-in_err-room : goal.returns-in_err-room
+returns-in_err-room c =
     let a = c.args in
-    no_room a.out.now a.out.now a.at _ refl (omega arith)
+    adds_none (no_room a.out.now a.out.now a.at _ refl (omega arith)) (search rules)
 
-pub returns-then-out-at-2 : goal.returns-then-out-at-2
-returns-then-out-at-2 c =
+pub returns-then-room-bytes : goal.returns-then-room-bytes
+returns-then-room-bytes c =
     let a = c.args in
     no_room a.out.now a.out.now a.at _ refl (omega arith)
 

@@ -1,4 +1,3 @@
-use Prim.Native.Nat.{◌-◌, ◌≤◌}
 use mathlib.Core.Path.{◌≡◌}
 use lib.ListN.{length}
 use Rattle.row.specs.Row.{Row}
@@ -8,7 +7,4 @@ use Rattle.listing.proofs.text.add_lines.Given as goal
 
 abbrev pub invariant-loop-i : goal.invariant-loop-i
 invariant-loop-i l =
-    (l.i ≤ l.count) × (length l.out ≡ length l.initial.out) × (length l.keys ≡ 16384) × (length l.notes ≡ 64) × Row l.s l.s l.index l.count × Remembers l.s l.s l.keys l.notes × LinesSoFar l.s l.index l.initial.out l.at l.out l.next l.i
-
-abbrev pub decreases-loop-i : goal.decreases-loop-i
-decreases-loop-i l = l.count - l.i
+    (length l.out ≡ length l.initial.out) × (length l.keys ≡ 16384) × (length l.notes ≡ 64) × Row l.s l.s l.index l.count × Remembers l.s l.s l.keys l.notes × LinesSoFar l.s l.index l.initial.out l.at l.out l.next l.i

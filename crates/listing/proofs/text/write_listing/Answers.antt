@@ -23,24 +23,24 @@ add_lines-requires c =
     let bytes = bytes_of_lem a.s.now (λ i h. omega (arith, c.type_inv.s i)) in
     index_row bytes index
 
-pub returns-in-Some : goal.returns-in-Some
-returns-in-Some c =
+pub returns-in_ok-at-in-Ok : goal.returns-in_ok-at-in-Ok
+returns-in_ok-at-in-Ok c =
     let a = c.args in
     let j = c.judge in
     let index = accepted_index a.s.now _ _ j.result j.ensures c.in-Ok.is in
     let bytes = bytes_of_lem a.s.now (λ i h. omega (arith, c.type_inv.s i)) in
-    wrote_records (omega arith) index c.add_first_line-in-Ok.ensures bytes c.in-Some.is c.add_lines.ensures
+    wrote_records (omega arith) index c.add_first_line-in-Ok.ensures bytes c.in_ok-at-in-Ok.was c.add_lines.ensures
 
-pub returns-in-None : goal.returns-in-None
-returns-in-None c =
+pub returns-in_err-at-in-Ok : goal.returns-in_err-at-in-Ok
+returns-in_err-at-in-Ok c =
     let a = c.args in
     let j = c.judge in
     let index = accepted_index a.s.now _ _ j.result j.ensures c.in-Ok.is in
-    wrote_short (omega arith) index c.add_first_line-in-Ok.ensures c.in-None.is
+    wrote_short (omega arith) index c.add_first_line-in-Ok.ensures c.in_err-at-in-Ok.was (search rules)
 
 pub returns-in-Err : goal.returns-in-Err
 returns-in-Err c =
     let a = c.args in
     let j = c.judge in
-    wrote_refused a.s.now (omega arith) (judged_refused a.s.now _ _ j.result j.ensures c.in-Err.is) _ c.number_of.ensures
+    wrote_refused a.s.now (omega arith) (judged_refused a.s.now _ _ j.result j.ensures c.in-Err.is) _ c.from.ensures
     c.add_first_line-in-Err.ensures

@@ -1,5 +1,4 @@
 use borrow.Author.Rules.{rules}
-use Prim.Native.Nat.{◌-◌}
 use native.Mathlib.Omega.{arith}
 use Rattle.known.proofs.Labels.{some_row_labels}
 use Rattle.opened.proofs.Marking.{none_lowered, all_lowered, one_lowered, lowered_fits, marked_chains}

@@ -1,5 +1,4 @@
 use borrow.Author.Rules.{rules}
-use Prim.Native.Nat.{◌-◌}
 use native.Mathlib.Omega.{arith}
 use Rattle.bytestring.proofs.Tools.{bytes_of_lem}
 use Rattle.path_reader.proofs.Rows.{key_inside, shares_small, size_small, onward_start, onward_end, onward_there, onward_entry}
@@ -23,8 +22,8 @@ extend_key-size-requires c = (search (rules, key_inside), search (rules, shares_
 pub loop-i-preserved : goal.loop-i-preserved
 loop-i-preserved c = search (rules, onward_entry)
 
-pub returns-in-Err : goal.returns-in-Err
-returns-in-Err c = search (rules, onward_there)
+pub returns-in_default : goal.returns-in_default
+returns-in_default c = search (rules, onward_there)
 
 pub returns : goal.returns
 returns c = search (rules, onward_end)

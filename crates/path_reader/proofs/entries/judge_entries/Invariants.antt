@@ -1,9 +1,5 @@
-use Prim.Native.Nat.{◌-◌}
 use Rattle.path_reader.proofs.Rows.{Onward}
 use Rattle.path_reader.proofs.entries.judge_entries.Given as goal
 
 abbrev pub invariant-loop-i : goal.invariant-loop-i
 invariant-loop-i l = Onward l.s l.first l.n l.left l.key l.buffer l.size l.judged l.at l.i
-
-abbrev pub decreases-loop-i : goal.decreases-loop-i
-decreases-loop-i l = l.n - l.i

@@ -5,8 +5,8 @@ use Rattle.path_reader.proofs.pages.prefixes_again.Goals as goal
 pub prefixes_fit-requires : goal.prefixes_fit-requires
 prefixes_fit-requires c = (search rules, search (rules, first_within))
 
-pub returns-in-Ok : goal.returns-in-Ok
-returns-in-Ok c = search (rules, prefixes_read)
+pub returns : goal.returns
+returns c = search (rules, prefixes_read)
 
-pub returns-in-Err : goal.returns-in-Err
-returns-in-Err c = search (rules, prefixes_unread)
+pub returns-in_default : goal.returns-in_default
+returns-in_default c = search (rules, prefixes_unread)

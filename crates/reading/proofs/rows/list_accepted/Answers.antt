@@ -5,4 +5,4 @@ use Rattle.reading.proofs.rows.list_accepted.Goals as goal
 
 pub returns-then-count-n : goal.returns-then-count-n
 returns-then-count-n c =
-    let it = list_past _ c.clear.ensures refl c.args.n c.requires (omega arith) in record { answer = it.0; key = it.1.0; value = it.1.1 }
+    let it = list_past _ c.clear.ensures refl c.args.n c.requires.records (omega arith) in record { answer = it.0; key = it.1.0; value = it.1.1 }

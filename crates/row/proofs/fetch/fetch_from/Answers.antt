@@ -1,5 +1,4 @@
 use borrow.Author.Rules.{rules}
-use Prim.Native.Nat.{◌-◌}
 use native.Mathlib.Omega.{arith}
 use Rattle.bytestring.proofs.Tools.{bytes_of_lem}
 use Rattle.row.proofs.Ways.{located_inside, located_shares, located_size, nearer, way_begins, no_way, way_on, way_stops, way_ends, way_breaks}
@@ -19,17 +18,17 @@ loop-at-smaller c = search (rules, nearer)
 pub loop-at-preserved : goal.loop-at-preserved
 loop-at-preserved c = (search rules, search rules, search rules, search rules, search (rules, way_on))
 
-pub returns-in-Err : goal.returns-in-Err
-returns-in-Err c = search (rules, way_stops)
+pub returns-in_default-locate_entry : goal.returns-in_default-locate_entry
+returns-in_default-locate_entry c = search (rules, way_stops)
 
 pub extend_key-requires : goal.extend_key-requires
 extend_key-requires c = (search (rules, located_inside), search (rules, located_shares), search (rules, located_size))
 
-pub returns-in-Ok-locate_entry : goal.returns-in-Ok-locate_entry
-returns-in-Ok-locate_entry c = search (rules, way_ends)
+pub returns : goal.returns
+returns c = search (rules, way_ends)
 
-pub returns-in-Err-locate_entry : goal.returns-in-Err-locate_entry
-returns-in-Err-locate_entry c = search (rules, way_breaks)
+pub returns-in_default-locate_entry-2 : goal.returns-in_default-locate_entry-2
+returns-in_default-locate_entry-2 c = search (rules, way_breaks)
 
-pub returns-in-None : goal.returns-in-None
-returns-in-None c = search (rules, no_way)
+pub returns-in_default : goal.returns-in_default
+returns-in_default c = search (rules, no_way)

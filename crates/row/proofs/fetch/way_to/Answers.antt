@@ -5,12 +5,6 @@ use Rattle.row.proofs.fetch.way_to.Goals as goal
 pub returns-then-next-eq0 : goal.returns-then-next-eq0
 returns-then-next-eq0 c = c.first_of.ensures c.args.entry c.args.note
 
-pub returns-then-page_in-page : goal.returns-then-page_in-page
-returns-then-page_in-page c = c.first_of-then-page_in-page.ensures c.args.entry c.args.note
-
-pub returns-then-entry-next : goal.returns-then-entry-next
-returns-then-entry-next c = c.first_of-then-entry-next.ensures c.args.entry c.args.note
-
 pub returns : goal.returns
 returns c =
     let a = c.args in

@@ -19,6 +19,6 @@ pub returns : goal.returns
 returns c =
     let a = c.args in
     let key = ap (take (length a.name.now + 1)) c.write_bytes.ensures ∙ one_behind a.name.now a.next 256 c.requires.1 in record {
-      number = c.lower_bound.ensures.number ∙ ap (λ (k : List ℕ). count_below k (accepted_records (judge a.register.now))) key;
+      number = c.lower_bound.ensures.number ∙ ap (λ (k : List ℕ). count_below k (accepted_records (judge a.accepted.now.register.now))) key;
       within = c.lower_bound.ensures.within;
     }

@@ -4,7 +4,7 @@ use native.Mathlib.Omega.{arith}
 use lib.ListN.{length, set, length-set}
 use lib.Seq.{length-take-le}
 use Rattle.key.specs.Key.{slash_byte}
-use Rattle.screen.proofs.Naming.{key_tried, name_lawful, name_unlawful, name_long}
+use Rattle.screen.proofs.Naming.{key_tried, name_tested, name_long}
 use borrow.Author.Rules.{rules}
 use Rattle.screen.proofs.name.is_collection_name.Goals as goal
 
@@ -22,12 +22,7 @@ slice_bounds-slash-end c =
     let n = length c.args.name.now in
     sym (length-take-le (n + 2) (set w.new.out n slash_byte) (omega (arith, length-set w.new.out n slash_byte, w.auto.out)))
 
-pub returns-in-Ok : goal.returns-in-Ok
-returns-in-Ok c =
+pub returns : goal.returns
+returns c =
     let name = c.args.name.now in
-    sym (name_lawful name (key_tried name _ c.write_bytes.ensures (omega arith) ∙ sym c.slash.ensures ∙ c.in-Ok.is))
-
-pub returns-in-Err : goal.returns-in-Err
-returns-in-Err c =
-    let name = c.args.name.now in
-    sym (name_unlawful name (key_tried name _ c.write_bytes.ensures (omega arith) ∙ sym c.slash.ensures ∙ c.in-Err.is))
+    c.is_ok.ensures.value ∙ name_tested name c.slash.result (key_tried name _ c.write_bytes.ensures (omega arith) ∙ sym c.slash.ensures)

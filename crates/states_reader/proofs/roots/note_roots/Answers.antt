@@ -1,7 +1,6 @@
 use mathlib.Core.Path.{ap}
 use mathlib.Core.Bool.{not}
 use borrow.Author.Rules.{rules}
-use Prim.Native.Nat.{◌-◌}
 use native.Mathlib.Omega.{arith}
 use Rattle.bytestring.proofs.Tools.{bytes_of_lem}
 use Rattle.row.proofs.Memories.{fresh_zeros}
@@ -12,7 +11,7 @@ pub loop-i-init : goal.loop-i-init
 loop-i-init c =
     let a = c.args in
     let none = no_roots a.states.now a.index.now a.count a.words.now a.m a.roots.now in
-    (search rules, search rules, search rules, search rules, search rules, search (rules, fresh_zeros), none)
+    (search rules, search rules, search rules, search rules, search (rules, fresh_zeros), none)
 
 pub offset_bounds-index-i : goal.offset_bounds-index-i
 offset_bounds-index-i c = omega (arith, c.requires.0.room)
@@ -25,7 +24,7 @@ recall-found-requires c =
     let bytes = bytes_of_lem c.args.states.now (λ i h. omega (arith, c.type_inv.states i)) in
     let l = c.loop-i in
     let short = register_short c.requires.0 bytes in
-    (short, short, record_places c.requires.0 bytes l.i c.loop-i-test.true, l.invariant.5, search rules, search rules)
+    (short, short, record_places c.requires.0 bytes l.i c.loop-i-test.true, l.invariant.4, search rules, search rules)
 
 pub is_state_key-requires : goal.is_state_key-requires
 is_state_key-requires c =
@@ -82,13 +81,12 @@ loop-i-preserved c =
     let l = c.loop-i in
     let r = c.recall-found in
     let more = roots_more bytes l.i c.loop-i-test.true r.ensures c.is_state_key.ensures
-    a.words.now a.m l.roots l.words (ap not c.if-not-is_state_key.false) c.codec_at.ensures (omega (arith, c.if-codec_at-ne-DAG_CBOR.false)) l.invariant.6
+    a.words.now a.m l.roots l.words (ap not c.if-not-is_state_key.false) c.codec_at.ensures (omega (arith, c.if-codec_at-ne-DAG_CBOR.false)) l.invariant.5
     (omega (arith, c.requires.1)) (omega (arith, c.requires.2)) in (
-      omega (arith, c.loop-i-test.true),
       search rules,
       search rules,
+      omega (arith, r.auto, l.invariant.2),
       omega (arith, r.auto, l.invariant.3),
-      omega (arith, r.auto, l.invariant.4),
       r.ensures.remembers,
       more,
     )
@@ -96,4 +94,4 @@ loop-i-preserved c =
 pub returns : goal.returns
 returns c =
     let l = c.loop-i in
-    roots_end l.invariant.6 l.invariant.0 c.loop-i-test.false
+    roots_end l.invariant.5 (omega arith) (omega (arith, c.loop-i-test))

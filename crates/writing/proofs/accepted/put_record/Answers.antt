@@ -15,12 +15,12 @@ set_word-requires c =
 pub write_table-requires : goal.write_table-requires
 write_table-requires c = ((chosen_row _ _ _ _ _ c.set_word.ensures c.in-Some.is).whole, none_labelled _ _, none_labelled _ _)
 
-pub returns-in-Some : goal.returns-in-Some
-returns-in-Some c =
+pub returns : goal.returns
+returns c =
     let a = accepting (λ i h. omega (arith, c.type_inv.register i)) c.requires.0 in let it = says_same _ _ _ (put_done a _ _ _ _ c.single-word.ensures _)
     (row_written (chosen_row _ _ _ _ _ c.set_word.ensures c.in-Some.is) _ _ _ (c.write_table.ensures.answer, c.write_table.ensures.output)) in record { answer = it.0; output = it.1 }
 
-pub returns-in-None : goal.returns-in-None
-returns-in-None c =
+pub returns-in_default : goal.returns-in_default
+returns-in_default c =
     let a = accepting (λ i h. omega (arith, c.type_inv.register i)) c.requires.0 in
-    let full = chosen_full _ _ _ _ _ c.set_word.ensures _ c.in-None.is in let it = refuses _ _ _ (sym (put_done a _ _ _ _ c.single-word.ensures _) ∙ full) (c.refuse.ensures.answer, c.refuse.ensures.output) in record { answer = it.0; output = it.1 }
+    let full = chosen_full _ _ _ _ _ c.set_word.ensures _ c.in_default.is in let it = refuses _ _ _ (sym (put_done a _ _ _ _ c.single-word.ensures _) ∙ full) (c.refuse.ensures.answer, c.refuse.ensures.output) in record { answer = it.0; output = it.1 }

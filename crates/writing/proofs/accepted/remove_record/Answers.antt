@@ -19,11 +19,11 @@ write_table-requires c =
     let a = accepting (λ i h. omega (arith, c.type_inv.register i)) c.requires in
     ((left_row a _ _ c.search.ensures.says _ _ c.in-Ok.is _ c.leave_out.auto.row c.leave_out.ensures).whole, none_labelled _ _, none_labelled _ _)
 
-pub returns-in-Ok : goal.returns-in-Ok
-returns-in-Ok c =
+pub returns : goal.returns
+returns c =
     let a = accepting (λ i h. omega (arith, c.type_inv.register i)) c.requires in
     let row = left_row a _ _ c.search.ensures.says _ _ c.in-Ok.is _ c.leave_out.auto.row c.leave_out.ensures in let it = says_same _ _ _ (found_without a _ _ c.search.ensures.says _ _ c.in-Ok.is _) (row_written row _ _ _ (c.write_table.ensures.answer, c.write_table.ensures.output)) in record { answer = it.0; output = it.1 }
 
-pub returns-in-Err : goal.returns-in-Err
-returns-in-Err c =
-    let a = accepting (λ i h. omega (arith, c.type_inv.register i)) c.requires in let it = refuses _ _ _ (absent_without a _ _ c.search.ensures.says _ c.in-Err.is _) (c.refuse.ensures.answer, c.refuse.ensures.output) in record { answer = it.0; output = it.1 }
+pub returns-in_default : goal.returns-in_default
+returns-in_default c =
+    let a = accepting (λ i h. omega (arith, c.type_inv.register i)) c.requires in let it = refuses _ _ _ (absent_without a _ _ c.search.ensures.says _ c.in_default.is _) (c.refuse.ensures.answer, c.refuse.ensures.output) in record { answer = it.0; output = it.1 }

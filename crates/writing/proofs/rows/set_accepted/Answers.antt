@@ -33,15 +33,15 @@ write_headed-requires c =
     let row = (chosen_row _ _ _ _ _ c.set_word.ensures c.in-Some.is).whole in
     (row, row_labelled c.requires.1, none_labelled _ _, lent_digest _ _ _ a.bytes a.given.judged c.requires.2 _ c.root_end-end.ensures)
 
-pub returns-in-Some : goal.returns-in-Some
-returns-in-Some c =
+pub returns : goal.returns
+returns c =
     let a = accepting (λ i h. omega (arith, c.type_inv.register i)) c.requires.0 in
     let tested = due_done _ c.test_record.ensures c.in_default.is in
     let done = set_done a c.args.head c.requires.2 c.args.greater _ _ _ tested c.as_value.ensures _ _ c.single-word.ensures _ in let it = gives_same _ _ _ _ done (row_moved (chosen_row _ _ _ _ _ c.set_word.ensures c.in-Some.is) _ _ _ _ (c.write_headed.ensures.headed, c.write_headed.ensures.output)) in record { headed = it.0; output = it.1 }
 
-pub returns-in-None : goal.returns-in-None
-returns-in-None c =
+pub returns-in_default-set_word : goal.returns-in_default-set_word
+returns-in_default-set_word c =
     let a = accepting (λ i h. omega (arith, c.type_inv.register i)) c.requires.0 in
     let tested = due_done _ c.test_record.ensures c.in_default.is in
-    let many = chosen_many _ _ _ _ _ c.set_word.ensures _ c.in-None.is in
-    let done = set_done a c.args.head c.requires.2 c.args.greater _ _ _ tested c.as_value.ensures _ _ c.single-word.ensures _ in let it = gives_refusal _ _ _ _ (sym done ∙ many) (c.refuse_headed-in-None.ensures.headed, c.refuse_headed-in-None.ensures.output) in record { headed = it.0; output = it.1 }
+    let many = chosen_many _ _ _ _ _ c.set_word.ensures _ c.in_default-set_word.is in
+    let done = set_done a c.args.head c.requires.2 c.args.greater _ _ _ tested c.as_value.ensures _ _ c.single-word.ensures _ in let it = gives_refusal _ _ _ _ (sym done ∙ many) (c.refuse_headed-in_default-set_word.ensures.headed, c.refuse_headed-in_default-set_word.ensures.output) in record { headed = it.0; output = it.1 }

@@ -1,26 +1,27 @@
 use mathlib.Core.Path.{sym, ap, ◌∙◌}
 use mathlib.Core.Bool.{not}
+use borrow.Author.Rules.{rules}
 use Rattle.answer.specs.declared.Refusal.TheVariants.{UnlawfulKey, FirstAfterLast}
 use Rattle.key.proofs.SlashLaws.{slash_done}
-use Rattle.writing.proofs.Writing.{test_holds, test_fails, unlawful_fails, none_due}
+use Rattle.writing.proofs.Writing.{test_holds, test_fails, unlawful_fails, none_due, order_lt}
 use Rattle.writing.proofs.tests.test_range.Goals as goal
 
-pub returns-in-Err : goal.returns-in-Err
-returns-in-Err c = unlawful_fails _ _ (sym c.slash.ensures ∙ c.in-Err.is)
+pub returns-in_err-slash : goal.returns-in_err-slash
+returns-in_err-slash c = sym (search rules) ∙ unlawful_fails _ _ (sym c.slash.ensures ∙ c.in_err-slash.was)
 
-pub returns-in-Err-slash : goal.returns-in-Err-slash
-returns-in-Err-slash c =
-    test_holds _ UnlawfulKey (slash_done _ _ (sym c.slash.ensures ∙ c.in_default.is))
-    (unlawful_fails _ _ (sym c.slash-2.ensures ∙ c.in-Err-slash.is))
+pub returns-in_err-slash-2 : goal.returns-in_err-slash-2
+returns-in_err-slash-2 c =
+    test_holds _ UnlawfulKey (slash_done _ _ (sym c.slash.ensures ∙ c.in_ok-slash.was))
+    (sym (search rules) ∙ unlawful_fails _ _ (sym c.slash-2.ensures ∙ c.in_err-slash-2.was))
 
-pub returns-then-is_less : goal.returns-then-is_less
-returns-then-is_less c =
-    test_holds _ UnlawfulKey (slash_done _ _ (sym c.slash.ensures ∙ c.in_default.is))
-    (test_holds _ UnlawfulKey (slash_done _ _ (sym c.slash-2.ensures ∙ c.in_default-slash.is))
-    (test_fails _ FirstAfterLast (ap not (sym c.is_less.ensures ∙ c.if-is_less.true))))
+pub returns-then-is_lt : goal.returns-then-is_lt
+returns-then-is_lt c =
+    test_holds _ UnlawfulKey (slash_done _ _ (sym c.slash.ensures ∙ c.in_ok-slash.was))
+    (test_holds _ UnlawfulKey (slash_done _ _ (sym c.slash-2.ensures ∙ c.in_ok-slash-2.was))
+    (test_fails _ FirstAfterLast (ap not (order_lt _ _ _ c.compare.ensures c.is_lt.ensures ∙ c.if-is_lt.true))))
 
 pub returns : goal.returns
 returns c =
-    test_holds _ UnlawfulKey (slash_done _ _ (sym c.slash.ensures ∙ c.in_default.is))
-    (test_holds _ UnlawfulKey (slash_done _ _ (sym c.slash-2.ensures ∙ c.in_default-slash.is))
-    (test_holds _ FirstAfterLast (ap not (sym c.is_less.ensures ∙ c.if-is_less.false)) none_due))
+    test_holds _ UnlawfulKey (slash_done _ _ (sym c.slash.ensures ∙ c.in_ok-slash.was))
+    (test_holds _ UnlawfulKey (slash_done _ _ (sym c.slash-2.ensures ∙ c.in_ok-slash-2.was))
+    (test_holds _ FirstAfterLast (ap not (order_lt _ _ _ c.compare.ensures c.is_lt.ensures ∙ c.if-is_lt.false)) none_due))
