@@ -102,7 +102,7 @@ fn combine(
     append(row, k, limit, second, b.at, m)
 }
 
-// The records of two rows, merged.
+// The records of two rows, merged. How many they are; none where they are too many for a register.
 pub fn choose(
     s: &[u8],
     u: &[u8],

@@ -1,4 +1,5 @@
-// The call, with rows that are lent: for each register one with a word for each record and one with two words for each chain of its pages.
+// The call, with rows that are lent for the first register: one with a word for each record and one with two words for each chain of its
+// pages. The second's are lent once the first is accepted.
 // Where a register is refused, the output is cleared, so that no refusal goes out by `?`.
 ghost use Rattle.std.specs.Prelude.{◌≡◌, length};
 ghost use Rattle.index.specs.Accepted.{AcceptedIndex, ChainRow};

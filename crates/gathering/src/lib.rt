@@ -24,6 +24,7 @@ struct FiledPages<'a> {
 }
 
 // The tree under the i-th page, which has this layer: the page, then the trees under its left link and under those after its entries.
+// The length of what was gathered; none where the output is too short for it.
 #[cycle(gather_entries_gather_link_gather_tree)]
 fn gather_tree(filed: &FiledPages, i: usize, layer: usize, out: &mut [u8]) -> Option<usize>
     requires { TreeStandsIn filed.now i layer }

@@ -6,7 +6,7 @@ ghost use Rattle.judge.specs.Standing.{AcceptSays};
 use crate::judge;
 use answer::Refusal;
 
-// One word for each record, and two for each chain. That they are those of the register is a fact of the calls that take one, `Stands`, and
+// One word for each record, and two for each chain. That they are those of the register is a fact of the calls that take one, `Stands` or `Indexed`, and
 // no ghost field: it holds the register's tree, which is more than a yes or no.
 #[derive(Clone, Copy)]
 pub struct Accepted<'a> {

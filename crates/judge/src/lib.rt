@@ -74,7 +74,7 @@ fn verdict_of(
     Ok((count, chains))
 }
 
-// Numbers 1 to 10 of a byte string, and the rows of a register that is accepted.
+// Numbers 1 to 10 of a byte string, and the rows of a register that is accepted: how many records it has, and how many chains.
 pub fn judge(s: &[u8], index: &mut [u64], row: &mut [u64]) -> Result<(usize, usize), Refusal>
     requires { RoomFor s.now 1 (length index.old) × RoomFor s.now 2 (length row.old) }
     ensures { RegisterSays s.now result index.new row.new }

@@ -12,7 +12,7 @@ use limits::MOST;
 use row::recall::recall;
 use value::{VALUE, value_at};
 
-// One byte, at a place.
+// One byte, at a place. Where the text ends; none where there is no room for it, as in the functions below.
 fn add_byte(out: &mut [u8], at: usize, byte: u8) -> Option<usize>
     ensures { Adds out.old at (byte ∷ []) out.new result }
 {

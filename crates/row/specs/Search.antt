@@ -32,7 +32,7 @@ count_below k rs = count_front (λ key. less key k) rs
 abbrev pub count_up_to : List ℕ → List Record → ℕ
 count_up_to k rs = count_front (λ key. not (less k key)) rs
 
--- Ok (the, position) found stands a record with the key; where there is none, the position is the number of records before the key.
+-- At the position found stands a record with the key; where there is none, the position is the number of records before the key.
 abbrev pub PositionIs : List ℕ → List Record → Result (ℕ × ℕ) ℕ → Type 0
 PositionIs k rs (Ok (position, place)) = (position < length rs) × (key_at rs position ≡ k) × (position ≡ count_below k rs)
 PositionIs k rs (Err position) = (position ≡ count_below k rs) × (position ≡ count_up_to k rs)

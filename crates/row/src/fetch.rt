@@ -15,7 +15,7 @@ pub struct FetchedAt {
     pub next: usize,
 }
 
-// The first entry of a page, before which no key is held.
+// Where the way to an entry begins, and the length of the key held there. It may begin at the first entry of a page, before which no key is held.
 fn first_of(s: &[u8], page: usize) -> Option<(usize, usize)>
     ensures { (entry note : ℕ) → StartSays s.now page entry note result }
 {

@@ -7,6 +7,7 @@ use key_order::compare;
 use limits::LONGEST_KEY;
 use std::cmp::Ordering;
 
+// The position of the key's record and the place of its value; or the number of records before the key.
 pub fn search(s: &[u8], index: &[u64], count: usize, key: &[u8]) -> Result<(usize, usize), usize>
     requires { count ≤ length index.now }
     ensures says { SearchSays s.now index.now count key.now result }

@@ -49,6 +49,7 @@ fn note_links_after(s: &[u8], first: usize, n: usize, links: &mut [u32], count: 
 }
 
 // Page after page until no bytes are left. The places of the pages and of their links' digests are noted as far as there is room.
+// How many pages there are, and how many links.
 pub fn note_sequence(s: &[u8], links: &mut [u32], pages: &mut [u32]) -> Result<(usize, usize), Stop>
     requires { length s.now < 2 ^ 24 }
     ensures { SequenceSays s.now result links.new pages.new }

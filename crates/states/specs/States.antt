@@ -119,7 +119,7 @@ unfoldable pub judge_states : Buffers → StatesVerdict
 judge_states b = judge_with_pages (judge b.states) b.pages
 
 -- ---- save and forget
--- Ok (are, refused), or write both buffers anew.
+-- Both are refused, or write both buffers anew.
 pub data Saved : Type 0 where
   unsaved : Refusal → Saved
   saved : Buffers → Saved

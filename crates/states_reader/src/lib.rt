@@ -103,6 +103,7 @@ fn states_hold(
 }
 
 // Numbers 1 to 10 of the states, 1, 3 and 2 of the pages, then 18. A page that a state reaches whose key is another than this one gets a mark.
+// How many states there are, and how many pages.
 pub fn judge_states(
     states: &[u8],
     sequence: &[u8],
