@@ -1,8 +1,12 @@
 -- Equal strings of bytes.
-use Prim.Native.Nat.{ℕ}
+use Prim.Native.Nat.{ℕ, ◌+◌, ◌≤◌, ◌<◌}
 use mathlib.Core.Path.{◌≡◌, refl, sym, ap, ap₂, ◌∙◌}
-use mathlib.Core.Bool.{Bool, true, false, ◌&&◌, false≢true}
+use mathlib.Core.Bool.{Bool, true, false, ◌&&◌, false≢true, and_assoc, and-true}
 use mathlib.Core.List.{List, [], ◌∷◌}
+use native.Mathlib.Omega.{arith}
+use native.Mathlib.Numerals.{add-one}
+use lib.ListN.{length, drop, get_or, drop_of_length-le}
+use lib.Seq.{drop-cons}
 use lib.Dec.{eqb}
 use lib.Pointwise.{pointwise}
 use borrow.Author.Tests.{eqb-true, eq-eqb}
@@ -36,3 +40,22 @@ pointwise_equal [] [] = refl
 pointwise_equal [] (b ∷ t) = refl
 pointwise_equal (a ∷ s) [] = refl
 pointwise_equal (a ∷ s) (b ∷ t) = ap (λ (x : Bool). eqb a b && x) (pointwise_equal s t)
+
+-- ---- the loop that compares
+module _ (a b : List ℕ) where
+  pub lengths_differ : (length a ≡ length b → ⊥) → false ≡ equal a b
+  lengths_differ f = equal-cases a b (λ e q. absurd (f (ap length q))) (λ e g. sym e)
+
+  -- a turn of the loop that compares byte i, and its end
+  module _ (same : Bool) (i : ℕ) (e : length a ≡ length b) (u : (same && equal (drop i a) (drop i b)) ≡ equal a b) where
+    pub bytes_compared : i < length a → (same && eqb (get_or a i 0) (get_or b i 0) && equal (drop (i + 1) a) (drop (i + 1) b)) ≡ equal a b
+    unfolding equal
+    bytes_compared h =
+        let l : i < length b = omega arith in
+        rw (add-one, and_assoc) (rw (drop-cons a i 0 h, drop-cons b i 0 l) at u)
+
+    pub bytes_end : length a ≤ i → same ≡ equal a b
+    unfolding equal
+    bytes_end h =
+        let l : length b ≤ i = omega arith in
+        sym (and-true same) ∙ rw (drop_of_length-le a h, drop_of_length-le b l) at u

@@ -1,11 +1,27 @@
 -- Writing at the front of an output, and at the front of the part of it that is lent from a place on.
-use Prim.Native.Nat.{ℕ, ◌+◌, ◌-◌, ◌≤◌}
+use Prim.Native.Nat.{ℕ, suc, ◌+◌, ◌-◌, ◌≤◌, ◌<◌}
 use mathlib.Core.Path.{◌≡◌, sym, ap, ◌∙◌}
 use mathlib.Core.List.{List, ◌++◌, append_assoc, append-nil}
 use native.Mathlib.Omega.{arith}
-use lib.ListN.{length, take, drop, length-append, length-drop, drop_of_length-le, take-append-drop}
-use lib.Seq.{take_all, take_at, drop_at, drop-drop, length-take-le}
+use native.Mathlib.Numerals.{add-one}
+use lib.ListN.{length, take, drop, get_or, set, length-append, length-drop, drop_of_length-le, take-append-drop}
+use lib.Seq.{take_all, take-suc, take_at, drop_at, drop-drop, drop-cons, append_snoc, set_at, length-take-le}
 use Rattle.bytestring.specs.Bytes.{front}
+
+-- ---- byte by byte
+-- the first i bytes are written
+abbrev pub WrittenSoFar : List ℕ → List ℕ → List ℕ → ℕ → Type 0
+WrittenSoFar bytes o out i = out ≡ take i bytes ++ drop i o
+
+module _ (bytes o out : List ℕ) (i : ℕ) (u : WrittenSoFar bytes o out i) where
+  pub written_all : length bytes ≤ i → i ≤ length bytes → out ≡ front bytes o
+  written_all h k = let e : i ≡ length bytes = omega arith in u ∙ rw (e, take_all (length bytes) bytes (omega arith))
+
+  pub written_more : i < length bytes → length bytes ≤ length o → WrittenSoFar bytes o (set out i (get_or bytes i 0)) (i + 1)
+  written_more h k =
+      let n : i ≤ length bytes = omega arith in
+      rw (u, add-one i, drop-cons o i 0 (omega arith), set_at (take i bytes) (get_or o i 0) (drop (suc i) o) (get_or bytes i 0) i (length-take-le i bytes n), take-suc bytes i 0 h)
+      (sym (append_snoc (take i bytes) (get_or bytes i 0) (drop (suc i) o)))
 
 -- ---- a part that is lent
 -- what `&mut xs[at..]` lends

@@ -29,14 +29,14 @@ module _ (v w : List ℕ) (n : length v ≡ 33) (m : length w ≡ 33) (o : Order
   digests : order (value_digest v) (value_digest w) ≡ o
   digests = sym (rw (take_all 32 (drop 1 v) (omega (arith, length-drop 1 v)), take_all 32 (drop 1 w) (omega (arith, length-drop 1 w))) at compared)
 
-  values_less : o ≡ Less → Less ≡ value_order v w
+  pub values_less : o ≡ Less → Less ≡ value_order v w
   values_less e = sym (lesser_value v w (lesser_digest v w (order_less (value_digest v) (value_digest w) (digests ∙ e)))).0
 
-  values_greater : o ≡ Greater → Greater ≡ value_order v w
+  pub values_greater : o ≡ Greater → Greater ≡ value_order v w
   values_greater e = sym (lesser_value w v (lesser_digest w v (order_greater (value_digest v) (value_digest w) (digests ∙ e)))).1
 
   -- where they are equal, the codecs decide
-  codecs_decide : o ≡ Equal → (r : Ordering) → r ≡ order (take 1 v) (take 1 w) → r ≡ value_order v w
+  pub codecs_decide : o ≡ Equal → (r : Ordering) → r ≡ order (take 1 v) (take 1 w) → r ≡ value_order v w
   codecs_decide e r f =
       let same = order_equal (value_digest v) (value_digest w) (digests ∙ e) in
       f ∙ less-connected (take 1 v) (take 1 w)

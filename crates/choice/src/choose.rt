@@ -35,13 +35,15 @@ fn append(
     requires { (k ≤ limit) × (limit ≤ length row.old) × (from ≤ to) × (to ≤ length words.now) }
     ensures { AppendSays row.old k limit (take (to - from) (drop from words.now)) result row.new }
 {
-    let rest = &words[from..to];
-    if limit - k < rest.len() {
+    let n = to - from;
+    if limit - k < n {
         return None;
     }
-    let end = k + rest.len();
-    row[k..end].copy_from_slice(rest);
-    Some(end)
+    // The library's copy would be memmove, which a program without a C library may not have.
+    for i in 0..n {
+        row[k + i] = words[from + i];
+    }
+    Some(k + n)
 }
 
 // Of the words at two cursors the one whose turn it is.

@@ -1,12 +1,12 @@
 -- When two heads are the same, and the head of a register that is accepted.
 use Prim.Native.Nat.{ℕ}
 use mathlib.Core.Path.{◌≡◌, refl, sym, ap, subst}
-use mathlib.Core.Bool.{true}
+use mathlib.Core.Bool.{true, false}
 use mathlib.Core.List.{List, [], map}
 use lib.ListN.{length}
 use lib.Dec.{eqb}
-use borrow.Author.Tests.{eqb-true, eq-eqb}
-use Rattle.bytestring.specs.Bytes.{Bytes}
+use borrow.Author.Tests.{eqb-true, ne_eqb, eq-eqb}
+use Rattle.bytestring.specs.Bytes.{Bytes, equal}
 use Rattle.bytestring.proofs.Equal.{equal_true, equal_refl}
 use Rattle.bytestring.proofs.Tools.{All, and_inv, and_both}
 use Rattle.fips180.specs.Hash.{sha256}
@@ -27,6 +27,19 @@ pub same_fields : {a b c d : ℕ} {x y : List ℕ} → a ≡ b → c ≡ d → x
 same_fields e f g = rw (e, f, g)
 
 module _ (h g : Head) where
+  pub other_count : (h.count ≡ g.count → ⊥) → false ≡ same_head h g
+  unfolding same_head
+  other_count n = rw (ne_eqb h.count g.count n)
+
+  module _ (count : h.count ≡ g.count) where
+    pub other_layer : (h.layer ≡ g.layer → ⊥) → false ≡ same_head h g
+    unfolding same_head
+    other_layer n = rw (eq-eqb h.count g.count count, ne_eqb h.layer g.layer n)
+
+    pub by_digest_lem : h.layer ≡ g.layer → equal h.digest g.digest ≡ same_head h g
+    unfolding same_head
+    by_digest_lem layer = rw (eq-eqb h.count g.count count, eq-eqb h.layer g.layer layer)
+
   pub same_head_lem : same_head h g ≡ true → h ≡ g
   unfolding same_head
   same_head_lem e =

@@ -20,7 +20,8 @@ words_cut row n xs room w i h g =
     let inside : i < n = omega (arith, g, length-take-le n row room) in
     rw (get_or-take n row i 0 inside) (w i h (omega (arith, inside, room)))
 
-index_cut : {s index : List ℕ} {count : ℕ} → AcceptedIndex s index count → AcceptedIndex s (take count index) (length (take count index))
+-- a row may be longer than the count of its words: cut, it still is one
+pub index_cut : {s index : List ℕ} {count : ℕ} → AcceptedIndex s index count → AcceptedIndex s (take count index) (length (take count index))
 index_cut {s} {index} {count} a =
     let e = length-take-le count index a.room in
     record { tree = a.tree; judged = a.judged; size = omega (arith, e, a.size); room = omega arith; indexed = words_cut index count _ a.room a.indexed }
@@ -35,7 +36,7 @@ chains_at_cut s row n k (c ∷ cs) room w = (
   chains_at_cut s row n (suc k) cs room w.1,
 )
 
-chains_cut : {s row : List ℕ} {n : ℕ} → ChainRow s row n → ChainRow s (take (2 * n) row) (length (take (2 * n) row) / 2)
+pub chains_cut : {s row : List ℕ} {n : ℕ} → ChainRow s row n → ChainRow s (take (2 * n) row) (length (take (2 * n) row) / 2)
 chains_cut {s} {row} {n} w =
     let e = length-take-le (2 * n) row w.room in
     record {

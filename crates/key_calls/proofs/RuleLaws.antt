@@ -13,7 +13,7 @@ use lib.Seq.{drop-cons, take_all}
 use borrow.Author.Tests.{eqb-true, eqb-false, eq-eqb, ne_eqb, ltb-true, ltb-false, le-leb, lt-leb}
 use borrow.Table.Steps.{cases}
 use Rattle.answer.specs.declared.Refusal.TheVariants.{UnlawfulKey}
-use Rattle.key.specs.Key.{slash_byte, ordinary, collection, name, all_ordinary, is_dot_name, lawful, slash_answer}
+use Rattle.key.specs.Key.{slash_byte, dot, ordinary, collection, name, all_ordinary, is_dot_name, lawful, slash_answer}
 use Rattle.key.specs.Inner.{only_slash}
 use Rattle.key.proofs.Lawful.{ordinary_no_slash, collection_le, name_is, slash_none, long_unlawful, no_collection, no_name, other_bytes}
 use Rattle.key_calls.specs.Inner.{has_bit, slash_or_end, passed, OrdinaryFrom}
@@ -113,6 +113,24 @@ pass_key n i (b ∷ s) h =
 pub pass_whole : (k : List ℕ) → passed (length k) (length k) 0 k ≡ slash_or_end k
 unfolding slash_or_end
 pass_whole k = pass_key (length k) 0 k (omega arith) ∙ rw zero-add
+
+-- ---- the names . and .. by their length
+pub dots_one : (s : List ℕ) → length s ≡ 1 → eqb (get_or s 0 0) dot ≡ is_dot_name s
+dots_one [] h = absurd (omega arith)
+dots_one (a ∷ []) h = refl
+dots_one (a ∷ b ∷ s) h = absurd (omega arith)
+
+pub dots_two : (s : List ℕ) → length s ≡ 2 → (eqb (get_or s 0 0) dot && eqb (get_or s 1 0) dot) ≡ is_dot_name s
+dots_two [] h = absurd (omega arith)
+dots_two (a ∷ []) h = absurd (omega arith)
+dots_two (a ∷ b ∷ []) h = refl
+dots_two (a ∷ b ∷ c ∷ s) h = absurd (omega arith)
+
+pub dots_other : (s : List ℕ) → (length s ≡ 1 → ⊥) → (length s ≡ 2 → ⊥) → false ≡ is_dot_name s
+dots_other [] f g = refl
+dots_other (a ∷ []) f g = absurd (f refl)
+dots_other (a ∷ b ∷ []) f g = absurd (g refl)
+dots_other (a ∷ b ∷ c ∷ s) f g = refl
 
 -- ---- the ways that the code answers
 module _ (k : List ℕ) where

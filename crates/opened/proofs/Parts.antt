@@ -121,13 +121,13 @@ module _ (s known : List ℕ) (n : ℕ) (u row : List ℕ) (m : ℕ) (root top :
       (cs ds : List Chain) → Chained s known n cs → Chained u row m ds
       → MarksAt (root ∷ labels_of (take done cs)) marks 0 0 ds × (opens ≡ not (is_among (root ∷ labels_of (take done cs)) top))
 
-  first_taken : (marks marks' : List ℕ) (p : Option ℕ) → ((i : ℕ) → i < m → get_or marks i 0 ≡ label_count (get_or row (2 * i) 0))
+  pub first_taken : (marks marks' : List ℕ) (p : Option ℕ) → ((i : ℕ) → i < m → get_or marks i 0 ≡ label_count (get_or row (2 * i) 0))
       → (w : TookPart s known n 0 root u row m top marks marks' p) (opens : Bool) → opens ≡ not (is_among (root ∷ w.part) top) → TakenTo marks' w.next opens
   unfolding labels_of
   first_taken marks marks' p f w opens is cs ds x y =
       rw (← w.labels cs x) (w.lowered [] ds y (begun u row m marks ds y f), is)
 
-  next_taken : (marks marks' : List ℕ) (done : ℕ) (p : Option ℕ) → TakenTo marks done true
+  pub next_taken : (marks marks' : List ℕ) (done : ℕ) (p : Option ℕ) → TakenTo marks done true
       → (w : TookPart s known n done root u row m top marks marks' p) (opens : Bool) → opens ≡ not (is_among (root ∷ w.part) top) → TakenTo marks' w.next opens
   unfolding is_among
   next_taken marks marks' done p so_far w opens is cs ds x y =

@@ -83,12 +83,12 @@ module _ (buffer s : List ℕ) (size shares at n : ℕ) where
           sym (get_or-take (length buffer) k shares 0 room) ∙ ap (λ (l : List ℕ). get_or l shares 0) (sym w.bytes)
           ∙ get_or-take size buffer shares 0 (omega (arith, w.size, longer k w))
 
-      byte_differs : (get_or buffer shares 0 ≡ get_or s at 0 → ⊥) → PrefixIs buffer size s shares at n true
+      pub byte_differs : (get_or buffer shares 0 ≡ get_or s at 0 → ⊥) → PrefixIs buffer size s shares at n true
       unfolding PrefixIs
       byte_differs f k w room =
           rw first (sym (eq-eqb shares _ (sym (shared_off k _ shares (get_or s at 0) (longer k w) (λ q. f (sym (held k w room) ∙ q))))))
 
-      byte_agrees : get_or buffer shares 0 ≡ get_or s at 0 → PrefixIs buffer size s shares at n false
+      pub byte_agrees : get_or buffer shares 0 ≡ get_or s at 0 → PrefixIs buffer size s shares at n false
       unfolding PrefixIs
       byte_agrees f k w room =
           let h = shared_on k (take (n - 1) (drop (suc at) s)) shares (get_or s at 0) (longer k w) (held k w room ∙ f) in

@@ -48,6 +48,13 @@ accepted_long {s} b a =
 
 -- ---- room for the rows
 module _ (s : List ℕ) (words : ℕ) where
+  -- a short register has at most 255 records
+  pub index_short : length s ≤ 13515 → 256 ≤ words → RoomFor s 1 words
+  index_short h i k few long = omega arith
+
+  pub chains_short : length s ≤ 13515 → 512 ≤ words → RoomFor s 2 words
+  chains_short h i k few long = omega arith
+
   pub index_long : 4096 ≤ words → RoomFor s 1 words
   index_long i k few long = omega arith
 

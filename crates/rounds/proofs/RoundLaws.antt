@@ -2,7 +2,7 @@
 use Rattle.std.proofs.Common.{◌≡◌, ℕ, zero, suc, ◌+◌, ◌-◌, ◌*◌, ◌<◌, ◌≤◌, List, [], ◌∷◌, length, get_or, take, drop, set, sym, refl, ap, ap₂, ◌∙◌, add-one, arith, get_or-set_other}
 use Rattle.std.specs.List.{fold}
 use Rattle.std.proofs.lemmas.List.Sums.{fold-append}
-use lib.Seq.{take-add, take-suc}
+use lib.Seq.{take-add, take-suc, take_all}
 use Rattle.fips180.specs.Words.{◌⊞◌, Ch, Σ1}
 use Rattle.fips180.specs.Hash.{K, schedule, round, rounds, plus, compress, after_blocks}
 use Rattle.fips180.specs.declared.State.{State}
@@ -82,3 +82,8 @@ pub block_more : (m w : List ℕ) (s x y : State) (i : ℕ) → w ≡ schedule 6
     → y ≡ after_blocks (i + 1) s m
 unfolding after_blocks
 block_more m w s x y i e f g = rw add-one (compressed (take 64 (drop (64 * i) m)) w x y e g ∙ ap (λ (z : State). compress z (take 64 (drop (64 * i) m))) f)
+
+-- one block is all of its bytes
+pub one_block : (m : List ℕ) (s y : State) → length m ≡ 64 → y ≡ after_blocks 1 s m → y ≡ compress s m
+unfolding after_blocks
+one_block m s y size e = e ∙ ap (compress s) (take_all 64 m (omega arith))

@@ -47,7 +47,7 @@ word_high m t w2 w7 w15 w16 h g e2 e7 e15 e16 =
     (sym (rw (e2, e7, e15, e16))))
 
 -- all 64 words stand
-whole : (m w : List ℕ) → length w ≡ 64 → ((t : ℕ) → t < 64 → get_or w t 0 ≡ get_or (schedule 64 m) t 0) → w ≡ schedule 64 m
+pub whole : (m w : List ℕ) → length w ≡ 64 → ((t : ℕ) → t < 64 → get_or w t 0 ≡ get_or (schedule 64 m) t 0) → w ≡ schedule 64 m
 whole m w l f = ext_get_or 0 w (schedule 64 m) (l ∙ sym (length_schedule 64 m)) (λ t h. f t (omega arith))
 
 block_word : (m : List ℕ) (i t : ℕ) → t < 16 → word (take 64 (drop (64 * i) m)) (4 * t) ≡ word m (64 * i + 4 * t)

@@ -6,8 +6,17 @@ mod schedule; // the words of some blocks beside each other
 
 ghost use Rattle.std.specs.Prelude.{◌≡◌, ◌*◌, length};
 ghost use Rattle.fips180.specs.Hash.{after_blocks};
+ghost use Rattle.fips180.specs.Hash.{compress as compressed};
 
 use fips180::State;
+
+// The hash value after one more block, with room of its own for the block's words.
+pub fn compress_of(s: State, m: &[u8]) -> State
+    requires { length m.now ≡ 64 }
+    ensures { result ≡ compressed s m.now }
+{
+    compress::<1>(s, &mut [0; 64], m)
+}
 
 // The hash value after LANES more blocks, with room in w for their words. The schedules stand before the first round.
 pub fn compress<const LANES: usize>(s: State, w: &mut [u32], m: &[u8]) -> State

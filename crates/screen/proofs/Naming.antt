@@ -55,13 +55,13 @@ module _ (c : List ℕ) where
       let same = ap (λ (s : List ℕ). take (length c + 2) (set s (length c) slash_byte)) e ∙ two_behind c 0x61 256 slash_byte (omega arith) in
       ap slash_answer (sym same)
 
-  name_lawful : {n : ℕ} → slash_answer (tried c) ≡ Ok n → is_collection_name c ≡ true
+  pub name_lawful : {n : ℕ} → slash_answer (tried c) ≡ Ok n → is_collection_name c ≡ true
   name_lawful e = short_passes c (name_short c (tried_name c (slash_done (tried c) _ e)))
 
   not_name : (ShortOrdinary c → ⊥) → is_collection_name c ≡ false
   not_name h = cases (is_collection_name c) (λ e. absurd (h (passes_short c e))) (λ e. e)
 
-  name_unlawful : {r : Refusal} → slash_answer (tried c) ≡ Err r → is_collection_name c ≡ false
+  pub name_unlawful : {r : Refusal} → slash_answer (tried c) ≡ Err r → is_collection_name c ≡ false
   name_unlawful e = not_name (λ h. false≢true (sym (slash_refused (tried c) _ e).0 ∙ short_tried c h))
 
   pub name_tested : (r : Result ℕ Refusal) → slash_answer (tried c) ≡ r → is_ok r ≡ is_collection_name c

@@ -5,23 +5,25 @@ use mathlib.Core.Logic.{inl}
 use mathlib.Core.Option.{none, some}
 use mathlib.Core.List.{List, [], ◌∷◌}
 use native.Mathlib.Omega.{arith}
-use lib.ListN.{take, drop, get_or}
+use lib.ListN.{length, take, drop, get_or}
 use Rattle.bytestring.specs.Bytes.{Bytes}
 use Rattle.limits.specs.Limits.{deepest}
 use Rattle.value.specs.Value.{digest_in}
-use Rattle.page.specs.Page.{RawEntry, RawPage}
-use Rattle.page_reader.specs.Place.{link_at}
+use Rattle.page.specs.Page.{RawEntry, RawPage, page}
+use Rattle.page.proofs.Readers.{read_sub}
+use Rattle.page_reader.specs.Place.{Reads, link_at}
 use Rattle.states.specs.Pages.{link_list}
 use Rattle.promises.specs.Promises.{Among}
 use Rattle.summaries.specs.Summary.{Summary, summary_of_page, summary}
 use Rattle.summaries.proofs.Fixed.{first_left, first_key}
 use Rattle.sequence.specs.Noted.{links_by_place}
 use Rattle.filing.specs.Filed.{page_place, no_page, pages_by_digest, Filed}
-use Rattle.tree_keys.specs.Ends.{SummaryAt, PagesFiled, Leads, LeadsTo, FirstSays}
-use Rattle.tree_keys.specs.Inner.{PageFirst, LinkWithin, LeftIs, SameFirst}
+use Rattle.tree_keys.specs.Ends.{SummaryAt, PagesFiled, InRow, PagesInRow, Leads, LeadsTo, FirstSays}
+use Rattle.tree_keys.specs.Inner.{place_after, PageFirst, LinkWithin, LeftIs, SameFirst}
 use Rattle.tree_keys.specs.declared.KeyAt.{KeyAt}
 use Rattle.tree_keys.proofs.Following.{order_links, page_summary, layer_low, link_leads, link_below}
 use Rattle.tree_keys.proofs.Firsts.{nowhere, link_is, no_link_lem, no_summary}
+use Rattle.tree_keys.proofs.Rows.{row_reads}
 
 -- ---- the left link of the c-th page
 pub record LeftOf (s p labels pages : List ℕ) (n c left : ℕ) : Type 0 where
@@ -34,6 +36,20 @@ module _ (s p labels pages : List ℕ) (n c : ℕ) (h : c < n) (b : Bytes p) (at
     within = (l 0).within;
     link = λ raws f. let x = f.places c h in (l x.0).link b (get_or raws c no_page) (rw place x.1);
   }
+
+module _ {s p labels pages : List ℕ} {n : ℕ} (w : PagesInRow s p labels pages n) (c : ℕ) (h : c < n) (b : Bytes p)
+    (at : ℕ) (place : at ≡ page_place (get_or pages c 0)) (end : ℕ) (after : end ≡ place_after p pages n c) where
+  -- the pages of a sequence are determined
+  ends_there : (raws : List RawPage) → Filed s p labels pages n raws → Reads page p at (get_or raws c no_page) end
+  ends_there raws f =
+      let row = read_sub (λ (l : List RawPage) _. InRow pages n l) (sym w.1.reads ∙ f.reads) w.2 in
+      rw (place, after) (row_reads b f row c h)
+
+  pub page_between : (at ≤ end) × (end ≤ length p)
+  page_between = let r = ends_there w.0 w.1 in (omega (arith, r.ahead), r.within)
+
+  pub left_by_end : (left : ℕ) → LeftIs p at end left → LeftOf s p labels pages n c left
+  left_by_end left l = record { within = l.within; link = λ raws f. l.link b (get_or raws c no_page) (ends_there raws f) }
 
 -- ---- the way down
 -- The tree under the page c has the first key of the tree under the page i.

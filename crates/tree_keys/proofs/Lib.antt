@@ -2,6 +2,7 @@ pub mod Following
 pub mod Firsts
 pub mod Starts
 pub mod Lefts
+pub mod Rows
 pub mod FirstWays
 pub mod Lasts
 pub mod LastWays

@@ -1,13 +1,13 @@
 -- The first and the last key of the tree under a filed page.
-use Rattle.std.specs.Prelude.{ℕ, ◌+◌, ◌*◌, ◌/◌, ◌%◌, ◌≤◌, ◌<◌, ◌≡◌, List, length, take, drop, get_or}
+use Rattle.std.specs.Prelude.{ℕ, zero, suc, ◌+◌, ◌*◌, ◌/◌, ◌%◌, ◌≤◌, ◌<◌, ◌≡◌, List, [], ◌∷◌, length, take, drop, get_or}
 use Rattle.std.proofs.Math.Option.{some}
 use Rattle.limits.specs.Limits.{deepest, longest_key}
 use Rattle.value.specs.Value.{digest_length, digest_in}
 use Rattle.fips180.specs.Hash.{sha256}
-use Rattle.page.specs.Page.{RawPage}
+use Rattle.page.specs.Page.{RawPage, page_bytes}
 use Rattle.page_keys.specs.Buffer.{LastIs}
 use Rattle.summaries.specs.Summary.{Summary, summary}
-use Rattle.filing.specs.Filed.{bytes_at, pages_by_digest, Filed}
+use Rattle.filing.specs.Filed.{page_place, bytes_at, pages_by_digest, Filed}
 use Rattle.tree_keys.specs.declared.KeyAt.{KeyAt}
 
 -- The tree under the i-th page has a summary.
@@ -17,6 +17,18 @@ SummaryAt raws i x = summary deepest (pages_by_digest raws) (sha256 (bytes_at ra
 -- Pages are filed.
 abbrev pub PagesFiled : List ℕ → List ℕ → List ℕ → List ℕ → ℕ → Type 0
 PagesFiled s p labels pages n = (raws : List RawPage) × Filed s p labels pages n raws
+
+-- They stand in a row from the first byte of p on: each begins where the one before it ends.
+unfoldable pub row_place : List RawPage → ℕ → ℕ
+row_place raws zero = 0
+row_place [] (suc i) = 0
+row_place (raw ∷ raws) (suc i) = length (page_bytes raw) + row_place raws i
+
+abbrev pub InRow : List ℕ → ℕ → List RawPage → Type 0
+InRow pages n raws = (i : ℕ) → i < n → page_place (get_or pages i 0) ≡ row_place raws i
+
+abbrev pub PagesInRow : List ℕ → List ℕ → List ℕ → List ℕ → ℕ → Type 0
+PagesInRow s p labels pages n = (raws : List RawPage) × Filed s p labels pages n raws × InRow pages n raws
 
 -- Among filed pages is one whose digest stands at the place of a link.
 pub record Leads (s p labels : List ℕ) (n link : ℕ) : Type 0 where

@@ -1,5 +1,5 @@
 -- What contracts inside this crate cite, and no public contract does.
-use Rattle.std.specs.Prelude.{ℕ, ◌+◌, ◌-◌, ◌*◌, ◌≤◌, ◌<◌, ◌≡◌, List, [], ◌∷◌, ◌++◌, length, take, drop, get_or, set}
+use Rattle.std.specs.Prelude.{ℕ, suc, ◌+◌, ◌-◌, ◌*◌, ◌≤◌, ◌<◌, ◌≡◌, cond, List, [], ◌∷◌, ◌++◌, length, take, drop, get_or, set, ltb}
 use Rattle.std.proofs.Math.Option.{Option, some}
 use Rattle.bytestring.specs.Bytes.{Bytes}
 use Rattle.limits.specs.Limits.{longest_key}
@@ -11,11 +11,16 @@ use Rattle.promises.specs.Promises.{Among}
 use Rattle.page_keys.specs.Buffer.{LastIs}
 use Rattle.summaries.specs.Summary.{Summary, summary_of_page}
 use Rattle.sequence.specs.Noted.{links_by_place}
+use Rattle.filing.specs.Filed.{page_place}
 use Rattle.tree_keys.specs.Ends.{tag_page, SummaryAt}
 use Rattle.tree_keys.specs.declared.KeyAt.{KeyAt}
 use Rattle.tree_keys.specs.declared.OwnEnd.{OwnEnd}
 
 -- ---- one page
+-- Where the i-th of n pages ends: where the next begins, and the last at the end of p.
+unfoldable pub place_after : List ℕ → List ℕ → ℕ → ℕ → ℕ
+place_after p pages n i = cond (ltb (suc i) n) (page_place (get_or pages (suc i) 0)) (length p)
+
 -- A key stands in p; where so many entries are read from a place on, it is the remainder of the first.
 pub record OwnFirst (p : List ℕ) (first count : ℕ) (k : KeyAt) : Type 0 where
   pub within : k.place + k.size ≤ length p

@@ -5,17 +5,26 @@ ghost use Rattle.std.specs.Prelude.{◌≡◌, IfSome, List, ℕ, ◌+◌, ◌*�
 ghost use Rattle.limits.specs.Limits.{longest, longest_key};
 ghost use Rattle.page.specs.Page.{RawPage};
 ghost use Rattle.filing.specs.Filed.{page_place, Filed};
-ghost use Rattle.tree_keys.specs.Ends.{PagesFiled, Leads, LeadsTo, FirstSays, LastSays, tag_size, KeptKeys};
-ghost use Rattle.tree_keys.specs.Inner.{OwnFirst, PageFirst, LinkWithin, LeftIs, EntriesEndWith, PageEndsWith, SameLast, TagFound, KeyKept};
+ghost use Rattle.tree_keys.specs.Ends.{PagesFiled, PagesInRow, Leads, LeadsTo, FirstSays, LastSays, tag_size, KeptKeys};
+ghost use Rattle.tree_keys.specs.Inner.{place_after, OwnFirst, PageFirst, LinkWithin, LeftIs, EntriesEndWith, PageEndsWith, SameLast, TagFound, KeyKept};
 
 use bytestring::write_bytes;
 use limits::{DEEPEST, LONGEST_KEY};
 use links::find_word;
 use page_keys::extend_key;
 use page_reader::{locate_entry, read_page, read_page_start};
+use value::DIGEST;
 
 // A page's word holds its place below this number.
 pub const PLACES: u32 = 0x40_0000;
+
+// A page link has so many bytes, and this one is the first.
+const LINK: usize = 41;
+
+const LINK_START: u8 = 0xD8;
+
+// A page with a left link has so many bytes at least.
+const LEAST_WITH_LEFT: usize = 47;
 
 // A page with more entries is long.
 const LONG: usize = 64;
@@ -50,6 +59,17 @@ pub fn word_place(word: u32) -> usize
     (word % PLACES) as usize
 }
 
+// Where the i-th page ends: where the next begins, and the last at the end of the sequence.
+fn place_after(sequence: &[u8], pages: &[u32], n: usize, i: usize) -> usize
+    requires { (i < n) × (n ≤ length pages.now) }
+    ensures { result ≡ place_after sequence.now pages.now n i }
+{
+    if i + 1 < n {
+        return word_place(pages[i + 1]);
+    }
+    sequence.len()
+}
+
 // The place of the digest of the left link of the page at a place, or 0: no digest stands at the first byte of a sequence.
 fn read_left(sequence: &[u8], at: usize) -> usize
     ensures { (end : ℕ) → LeftIs sequence.now at end result }
@@ -58,6 +78,21 @@ fn read_left(sequence: &[u8], at: usize) -> usize
         return 0;
     };
     p.left
+}
+
+// The same of the page that stands between two places. The link ends the page, so that no entries are passed. Where there is none, the value of
+// the last entry ends three bytes before the page does, so that its fourth byte stands where a link would begin.
+fn left_link(sequence: &[u8], at: usize, end: usize) -> usize
+    requires { (at ≤ end) × (end ≤ length sequence.now) }
+    ensures { LeftIs sequence.now at end result }
+{
+    if end - at < LEAST_WITH_LEFT {
+        return 0;
+    }
+    if sequence[end - LINK] == LINK_START {
+        return end - DIGEST;
+    }
+    0
 }
 
 // The number of the page whose digest stands at the place of a link. What filed pages are known by is passed part by part, here and below: the
@@ -112,6 +147,31 @@ pub fn first_key(
     for steps in 0..DEEPEST {
         let at = word_place(pages[c]);
         let left = read_left(sequence, at);
+        if left == 0 {
+            return page_first(sequence, at);
+        }
+        c = linked_page(states, sequence, labels, n, left);
+    }
+    NO_KEY
+}
+
+// The same where the pages stand in a row, so that their ends are known: no entries are passed on the way.
+pub fn first_key_by_ends(
+    states: &[u8],
+    sequence: &[u8],
+    labels: &[u32],
+    pages: &[u32],
+    n: usize,
+    i: usize,
+) -> KeyAt
+    requires { PagesInRow states.now sequence.now labels.now pages.now n × (i < n) }
+    ensures { FirstSays states.now sequence.now labels.now pages.now n i result }
+{
+    let mut c = i;
+    for steps in 0..DEEPEST {
+        let at = word_place(pages[c]);
+        let end = place_after(sequence, pages, n, c);
+        let left = left_link(sequence, at, end);
         if left == 0 {
             return page_first(sequence, at);
         }

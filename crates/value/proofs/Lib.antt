@@ -1,3 +1,4 @@
 pub mod Comparing
+pub mod Standing
 pub mod Laws
 mod Numbers

@@ -226,7 +226,7 @@ module _ {s u row : List ℕ} {n first hi start limit behind : ℕ} {o keys note
             length-append bytes_i (entries_bytes (f i).item.key (entries_at n f next hi)),
           )
 
-      entry_lacks : rm ≡ None → limit < start + length (entries_bytes [] es)
+      pub entry_lacks : rm ≡ None → limit < start + length (entries_bytes [] es)
       entry_lacks e =
           omega (
             arith,

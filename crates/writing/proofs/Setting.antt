@@ -128,3 +128,11 @@ module _ {s u index : List ℕ} {n : ℕ} {found : Result (ℕ × ℕ) ℕ} {wor
     pub absent_set : (g : Bool) (index' : List ℕ) → n < most → length index' ≡ length index → Inserted index n position word index'
         → RowOf s u index' (n + 1) (woven_of g s u index n (word ∷ []) 1)
     absent_set g index' few same = inserted_woven row g p.stands position counts.0 counts.1 index' few (omega (arith, p.room few))
+
+-- ---- room for one record more
+-- a short register has at most 255
+pub more_short : (s : List ℕ) (words : ℕ) → length s ≤ 13515 → 256 ≤ words → RoomForMore s words
+more_short s words h i k few long = omega arith
+
+pub more_long : (s : List ℕ) (words : ℕ) → 4096 ≤ words → RoomForMore s words
+more_long s words i k few long = omega arith
